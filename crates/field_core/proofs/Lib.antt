@@ -1,0 +1,4 @@
+pub mod Loops
+pub mod Zeros
+pub mod Refills
+pub mod Values

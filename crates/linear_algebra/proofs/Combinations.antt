@@ -1,0 +1,55 @@
+-- Combinations are vectors, and linear in the coefficients.
+use Rattle.std.proofs.Common.{◌≡◌, ℕ, List, [], ◌∷◌, ◌++◌, length, map, refl, sym, ap, ap₂, ◌∙◌, subst, All}
+use Rattle.std.proofs.lemmas.List.{length-map, map-append}
+use Rattle.std.proofs.lemmas.List.Elements.{All-head, All-tail, All-append}
+use Rattle.vector_spaces.proofs.Combination.{combination as combination_of, coefficient_sum, combination-sum as sum_law, combination-scale as scale_law, combination-append as append_law}
+use Rattle.linear_algebra.specs.Scalars.{Scalars, IsScalar, IsField}
+use Rattle.linear_algebra.specs.Vectors.{IsVector, AreVectors, vector_sum, multiple}
+use Rattle.linear_algebra.specs.Spans.{combination}
+use Rattle.linear_algebra.proofs.Elements.{scalar_field, add_elements, multiply_elements, same_element}
+use Rattle.linear_algebra.proofs.Coordinates.{list, tuple, element, element-number, list-vector, list-plus, list-scale, space}
+use Rattle.linear_algebra.proofs.Transfer.{tuples_of, combination_tuples}
+use Rattle.linear_algebra.proofs.VectorLaws.{vector_sum-vector, multiple-vector}
+
+module _ (S : Scalars) (F : IsField S) where
+  elements-sum : (cs ds : List ℕ) → All (IsScalar S) cs → All (IsScalar S) ds → map (element S F) (vector_sum S cs ds) ≡ coefficient_sum (scalar_field S F) (map (element S F) cs) (map (element S F) ds)
+  unfolding vector_sum scalar_field add_elements
+  elements-sum [] ds h k = refl
+  elements-sum (c ∷ cs) [] h k = refl
+  elements-sum (c ∷ cs) (d ∷ ds) h k =
+      let c_in = All-head (IsScalar S) c cs h in
+      let d_in = All-head (IsScalar S) d ds k in
+      ap₂ (λ x y. x ∷ y) (same_element S _ _ (element-number S F (S.sum c d) (F.sum_in c d c_in d_in) ∙ sym (ap₂ S.sum (element-number S F c c_in) (element-number S F d d_in))))
+      (elements-sum cs ds (All-tail (IsScalar S) c cs h) (All-tail (IsScalar S) d ds k))
+
+  elements-multiple : (a : ℕ) (cs : List ℕ) → IsScalar S a → All (IsScalar S) cs → map (element S F) (multiple S a cs) ≡ map (λ c. (scalar_field S F).◌⊠◌ (element S F a) c) (map (element S F) cs)
+  unfolding scalar_field multiply_elements
+  elements-multiple a [] h k = refl
+  elements-multiple a (c ∷ cs) h k =
+      let c_in = All-head (IsScalar S) c cs k in
+      ap₂ (λ x y. x ∷ y) (same_element S _ _ (element-number S F (S.product a c) (F.product_in a c h c_in) ∙ sym (ap₂ S.product (element-number S F a h) (element-number S F c c_in))))
+      (elements-multiple a cs h (All-tail (IsScalar S) c cs k))
+
+  module _ (d : ℕ) where
+    pub combination-vector : (cs : List ℕ) (vs : List (List ℕ)) → All (IsScalar S) cs → AreVectors S d vs → IsVector S d (combination S d cs vs)
+    combination-vector cs vs h k = subst (IsVector S d) (combination_tuples S F d cs vs h k) (list-vector S d (combination_of (space S F d) (map (element S F) cs) (tuples_of S F d vs)))
+
+    pub combination-sum : (n : ℕ) (cs ds : List ℕ) (vs : List (List ℕ)) → IsVector S n cs → IsVector S n ds → AreVectors S d vs → combination S d (vector_sum S cs ds) vs ≡ vector_sum S (combination S d cs vs) (combination S d ds vs)
+    combination-sum n cs ds vs h k l =
+        sym (combination_tuples S F d (vector_sum S cs ds) vs (vector_sum-vector S F n cs ds h k).entries l)
+        ∙ ap (list S d) (rw (elements-sum cs ds h.entries k.entries) (sum_law (scalar_field S F) (space S F d) (map (element S F) cs) (map (element S F) ds) (tuples_of S F d vs) (simp length-map (h.length_is ∙ sym k.length_is))))
+        ∙ list-plus S F d _ _ ∙ ap₂ (vector_sum S) (combination_tuples S F d cs vs h.entries l) (combination_tuples S F d ds vs k.entries l)
+
+    pub combination-multiple : (n a : ℕ) (cs : List ℕ) (vs : List (List ℕ)) → IsScalar S a → IsVector S n cs → AreVectors S d vs → combination S d (multiple S a cs) vs ≡ multiple S a (combination S d cs vs)
+    combination-multiple n a cs vs h k l =
+        sym (combination_tuples S F d (multiple S a cs) vs (multiple-vector S F n a cs h k).entries l)
+        ∙ ap (list S d) (rw (elements-multiple a cs h k.entries) (scale_law (scalar_field S F) (space S F d) (element S F a) (map (element S F) cs) (tuples_of S F d vs)))
+        ∙ list-scale S F d (element S F a) (combination_of (space S F d) (map (element S F) cs) (tuples_of S F d vs)) ∙ ap₂ (multiple S) (element-number S F a h) (combination_tuples S F d cs vs k.entries l)
+
+    pub combination-append : (cs ds : List ℕ) (vs ws : List (List ℕ)) → IsVector S (length vs) cs → All (IsScalar S) ds → AreVectors S d vs → AreVectors S d ws →
+        combination S d (cs ++ ds) (vs ++ ws) ≡ vector_sum S (combination S d cs vs) (combination S d ds ws)
+    combination-append cs ds vs ws h k l m =
+        sym (combination_tuples S F d (cs ++ ds) (vs ++ ws) (All-append (IsScalar S) cs ds h.entries k) (All-append (IsVector S d) vs ws l m))
+        ∙ ap (list S d) (rw (map-append (element S F) cs ds, map-append (tuple S F d) vs ws)
+        (append_law (scalar_field S F) (space S F d) (map (element S F) cs) (map (element S F) ds) (tuples_of S F d vs) (tuples_of S F d ws) (simp length-map h.length_is)))
+        ∙ list-plus S F d _ _ ∙ ap₂ (vector_sum S) (combination_tuples S F d cs vs h.entries l) (combination_tuples S F d ds ws k m)

@@ -1,0 +1,11 @@
+pub mod Elements
+pub mod Coordinates
+pub mod Transfer
+pub mod VectorLaws
+pub mod Combinations
+pub mod Deciding
+pub mod Selections
+pub mod Ranks
+pub mod SpanLaws
+pub mod IndependenceLaws
+pub mod RankLaws

@@ -1,0 +1,67 @@
+-- The rank of appends, and its bounds.
+use Rattle.std.proofs.Common.{◌≡◌, ℕ, ◌+◌, ◌≤◌, List, [], ◌++◌, length, sym, ap, ap₂, ◌∙◌, arith, append-nil, append_assoc, All}
+use Rattle.std.proofs.lemmas.List.{length-map, map-append}
+use Rattle.std.proofs.lemmas.List.Elements.{All-append}
+use Rattle.vector_spaces.proofs.Ranks.{rank-append as append_law, rank_le_length as length_law, rank_monotone, rank_of_independent as independent_law, independent_of_rank as rank_law}
+use Rattle.vector_spaces.proofs.Tuples.{Tuple}
+use Rattle.vector_spaces.proofs.Span.{InSpan as InSpan_of, span_closure, span_through}
+use Rattle.linear_algebra.specs.Scalars.{Scalars, IsField}
+use Rattle.linear_algebra.specs.Vectors.{IsVector, AreVectors}
+use Rattle.linear_algebra.specs.Spans.{InSpan, IsIndependent}
+use Rattle.linear_algebra.specs.Ranks.{rank, rank_over}
+use Rattle.linear_algebra.proofs.Elements.{Element, scalar_field}
+use Rattle.linear_algebra.proofs.Coordinates.{tuple, space}
+use Rattle.linear_algebra.proofs.Transfer.{tuples_of, independent_to_tuples, independent_from_tuples}
+use Rattle.linear_algebra.proofs.Ranks.{rank_of_tuples, rank-tuples}
+use Rattle.linear_algebra.proofs.SpanLaws.{within_tuples}
+
+module _ (S : Scalars) (F : IsField S) (d : ℕ) where
+  -- the rank of the tuples of an append
+  rank-append_tuples : (us vs : List (List ℕ)) → AreVectors S d us → AreVectors S d vs → rank S d (us ++ vs) ≡ rank S d us + rank_of_tuples S F d (tuples_of S F d us) (tuples_of S F d vs)
+  rank-append_tuples us vs h k =
+      rank-tuples S F d (us ++ vs) (All-append (IsVector S d) us vs h k)
+      ∙ ap (rank_of_tuples S F d []) (map-append (tuple S F d) us vs)
+      ∙ append_law (Tuple (Element S) d) (InSpan_of (space S F d)) (span_closure (scalar_field S F) (space S F d)) [] (tuples_of S F d us) (tuples_of S F d vs)
+      ∙ ap₂ (λ a b. a + b) (sym (rank-tuples S F d us h)) (ap (λ ts. rank_of_tuples S F d ts (tuples_of S F d vs)) (append-nil (tuples_of S F d us)))
+
+  -- the rank that vs adds to us is that of the tuples over those of us
+  pub rank_over-tuples : (us vs : List (List ℕ)) → AreVectors S d us → AreVectors S d vs → rank_over S d us vs ≡ rank_of_tuples S F d (tuples_of S F d us) (tuples_of S F d vs)
+  rank_over-tuples us vs h k = let e = rank-append_tuples us vs h k in omega arith
+
+  pub rank-append : (us vs : List (List ℕ)) → AreVectors S d us → AreVectors S d vs → rank S d (us ++ vs) ≡ rank S d us + rank_over S d us vs
+  rank-append us vs h k = let e = rank-append_tuples us vs h k in omega arith
+
+  -- vs and then ws add to us what both add
+  pub rank_over-append : (us vs ws : List (List ℕ)) → AreVectors S d us → AreVectors S d vs → AreVectors S d ws → rank_over S d us (vs ++ ws) ≡ rank_over S d us vs + rank_over S d (us ++ vs) ws
+  rank_over-append us vs ws h k l =
+      let e = rank-append us vs h k in
+      let f = rank-append (us ++ vs) ws (All-append (IsVector S d) us vs h k) l in
+      let g : rank S d (us ++ (vs ++ ws)) ≡ rank S d ((us ++ vs) ++ ws) = ap (rank S d) (sym (append_assoc us vs ws)) in
+      omega arith
+
+  pub rank_le_length : (vs : List (List ℕ)) → AreVectors S d vs → rank S d vs ≤ length vs
+  rank_le_length vs h =
+      let e = rank-tuples S F d vs h in
+      let l = length_law (Tuple (Element S) d) (InSpan_of (space S F d)) (span_closure (scalar_field S F) (space S F d)) [] (tuples_of S F d vs) in
+      let m = length-map vs (tuple S F d) in
+      omega arith
+
+  -- a list in the span of another has no greater rank
+  pub rank_le : (us vs : List (List ℕ)) → AreVectors S d us → AreVectors S d vs → All (InSpan S d vs) us → rank S d us ≤ rank S d vs
+  rank_le us vs h k a =
+      let e = rank-tuples S F d us h in
+      let f = rank-tuples S F d vs k in
+      let w = within_tuples S F d us vs k a in
+      let l = rank_monotone (Tuple (Element S) d) (InSpan_of (space S F d)) (span_closure (scalar_field S F) (space S F d)) [] (tuples_of S F d us) (tuples_of S F d vs)
+      (λ x c. rw append-nil (span_through (scalar_field S F) (space S F d) (tuples_of S F d us) (tuples_of S F d vs) x w.each c)) in
+      omega arith
+
+  pub rank_of_independent : (vs : List (List ℕ)) → AreVectors S d vs → IsIndependent S d vs → rank S d vs ≡ length vs
+  rank_of_independent vs h i =
+      rank-tuples S F d vs h
+      ∙ independent_law (Tuple (Element S) d) (InSpan_of (space S F d)) (span_closure (scalar_field S F) (space S F d)) [] (tuples_of S F d vs) (independent_to_tuples S F d vs h i)
+      ∙ length-map vs (tuple S F d)
+
+  pub independent_of_rank : (vs : List (List ℕ)) → AreVectors S d vs → rank S d vs ≡ length vs → IsIndependent S d vs
+  independent_of_rank vs h e = independent_from_tuples S F d vs h
+      (rank_law (Tuple (Element S) d) (InSpan_of (space S F d)) (span_closure (scalar_field S F) (space S F d)) [] (tuples_of S F d vs) (sym (rank-tuples S F d vs h) ∙ e ∙ sym (length-map vs (tuple S F d))))

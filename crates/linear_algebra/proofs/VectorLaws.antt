@@ -1,0 +1,34 @@
+-- Sums and multiples of vectors are those of their tuples.
+use Rattle.std.proofs.Common.{◌≡◌, ℕ, List, sym, ap, ap₂, ◌∙◌}
+use Rattle.linear_algebra.specs.Scalars.{Scalars, IsScalar, IsField}
+use Rattle.linear_algebra.specs.Vectors.{IsVector, zero_vector, vector_sum, multiple}
+use Rattle.linear_algebra.proofs.Coordinates.{list, list-vector, tuple, element, element-number, list-tuple, tuple-list, space, list-null, list-plus, list-scale}
+
+module _ (S : Scalars) (F : IsField S) (d : ℕ) where
+  infixl 65 ◌⊕◌
+  infixl 70 ◌·◌
+  open space S F d use {null, ◌⊕◌, ◌·◌}
+
+  pub list-sum : (u v : List ℕ) → IsVector S d u → IsVector S d v → list S d (tuple S F d u ⊕ tuple S F d v) ≡ vector_sum S u v
+  list-sum u v h k = list-plus S F d (tuple S F d u) (tuple S F d v) ∙ ap₂ (vector_sum S) (list-tuple S F d u h) (list-tuple S F d v k)
+
+  pub list-multiple : (c : ℕ) (v : List ℕ) → IsScalar S c → IsVector S d v → list S d (element S F c · tuple S F d v) ≡ multiple S c v
+  list-multiple c v h k = list-scale S F d (element S F c) (tuple S F d v) ∙ ap₂ (multiple S) (element-number S F c h) (list-tuple S F d v k)
+
+  pub tuple-sum : (u v : List ℕ) → IsVector S d u → IsVector S d v → tuple S F d (vector_sum S u v) ≡ tuple S F d u ⊕ tuple S F d v
+  tuple-sum u v h k = ap (tuple S F d) (sym (list-sum u v h k)) ∙ tuple-list S F d (tuple S F d u ⊕ tuple S F d v)
+
+  pub tuple-multiple : (c : ℕ) (v : List ℕ) → IsScalar S c → IsVector S d v → tuple S F d (multiple S c v) ≡ element S F c · tuple S F d v
+  tuple-multiple c v h k = ap (tuple S F d) (sym (list-multiple c v h k)) ∙ tuple-list S F d (element S F c · tuple S F d v)
+
+  pub tuple-zero : tuple S F d (zero_vector S d) ≡ null
+  tuple-zero = ap (tuple S F d) (sym (list-null S F d)) ∙ tuple-list S F d null
+
+  pub vector_sum-vector : (u v : List ℕ) → IsVector S d u → IsVector S d v → IsVector S d (vector_sum S u v)
+  vector_sum-vector u v h k = rw (← list-sum u v h k) (list-vector S d (tuple S F d u ⊕ tuple S F d v))
+
+  pub multiple-vector : (c : ℕ) (v : List ℕ) → IsScalar S c → IsVector S d v → IsVector S d (multiple S c v)
+  multiple-vector c v h k = rw (← list-multiple c v h k) (list-vector S d (element S F c · tuple S F d v))
+
+  pub zero-vector : IsVector S d (zero_vector S d)
+  zero-vector = rw (← list-null S F d) (list-vector S d null)

@@ -1,0 +1,4 @@
+pub mod Scalars
+pub mod Vectors
+pub mod Spans
+pub mod Ranks

@@ -1,0 +1,48 @@
+-- Bases of a list over an independent one, and the rank that they give it.
+use Rattle.std.proofs.Common.{◌≡◌, ℕ, ◌≤◌, List, ◌++◌, length, refl, arith}
+use Rattle.std.proofs.lemmas.List.{length-append}
+use Rattle.vector_spaces.proofs.Independence.{IsIndependent, independent_append, counting_bound}
+use Rattle.vector_spaces.proofs.Members.{In}
+use Rattle.vector_spaces.proofs.Ranks.{basis, basis_independent, basis_inside, basis_spans}
+use Rattle.vector_spaces.proofs.Space.{Field, Space}
+use Rattle.vector_spaces.proofs.Span.{InSpan, span_closure, span_member}
+use Rattle.vector_spaces.proofs.Within.{Within, placing, within_append, within_members, within_trans, within_right, through, left_in}
+
+-- some n of A are independent over us, and span A over us: A has rank n over us
+pub record HasRankOver {K V : Type 0} {f : Field K} (s : Space f V) (us A : List V) (n : ℕ) : Type 0 where
+  pub chosen : List V
+  pub chosen_in : (v : V) → In v chosen → In v A
+  pub independent : IsIndependent s (us ++ chosen)
+  pub spans : Within s A (us ++ chosen)
+  pub length_chosen : length chosen ≡ n
+
+module _ {K V : Type 0} {f : Field K} (s : Space f V) where
+  -- the choice of a basis of A over an independent list
+  pub basis_selection : (us A : List V) → IsIndependent s us → (n : ℕ) × HasRankOver s us A n
+  basis_selection us A i = (
+    length (basis V (InSpan s) (span_closure f s) us A),
+    record {
+      chosen = basis V (InSpan s) (span_closure f s) us A;
+      chosen_in = λ v j. basis_inside V (InSpan s) (span_closure f s) us A v j;
+      independent = independent_append s us (basis V (InSpan s) (span_closure f s) us A) i (basis_independent V (InSpan s) (span_closure f s) us A);
+      spans = record { each = λ v j. through s (basis V (InSpan s) (span_closure f s) us A ++ us) (us ++ basis V (InSpan s) (span_closure f s) us A) v (search placing) (basis_spans V (InSpan s) (span_closure f s) us A v (left_in s A us v (span_member f s A v j))) };
+      length_chosen = refl;
+    },
+  )
+
+  pub rank_over_bounds : (us A C : List V) (n : ℕ) → HasRankOver s us A n → IsIndependent s (us ++ C) → Within s C (us ++ A) → length C ≤ n
+  rank_over_bounds us A C n r i h =
+      let inside : Within s (us ++ A) (us ++ r.chosen) = within_append s us A (us ++ r.chosen) (search placing) r.spans in
+      let k : length (us ++ C) ≤ length (us ++ r.chosen) = counting_bound s (us ++ C) (us ++ r.chosen) i (within_append s us C (us ++ r.chosen) (search placing) (within_trans s C (us ++ A) (us ++ r.chosen) h inside)) in
+      let a = length-append us C in
+      let b = length-append us r.chosen in
+      let e = r.length_chosen in
+      omega arith
+
+  pub rank_over_unique : (us A : List V) (m n : ℕ) → HasRankOver s us A m → HasRankOver s us A n → m ≡ n
+  rank_over_unique us A m n p q =
+      let k = rank_over_bounds us A p.chosen n q p.independent (within_right s p.chosen us A (within_members s p.chosen A p.chosen_in)) in
+      let l = rank_over_bounds us A q.chosen m p q.independent (within_right s q.chosen us A (within_members s q.chosen A q.chosen_in)) in
+      let a = p.length_chosen in
+      let b = q.length_chosen in
+      omega arith

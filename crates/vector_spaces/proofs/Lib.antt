@@ -1,0 +1,14 @@
+pub mod Members
+pub mod Sublists
+pub mod Closure
+pub mod Ranks
+pub mod Space
+pub mod Span
+pub mod Combination
+pub mod Within
+pub mod Independence
+pub mod Bases
+pub mod Splits
+pub mod Tuples
+pub mod Uniqueness
+pub mod LinearMaps
