@@ -1,13 +1,13 @@
 -- Combinations are vectors, and linear in the coefficients.
 use Rattle.std.proofs.Common.{◌≡◌, ℕ, List, [], ◌∷◌, ◌++◌, length, map, refl, sym, ap, ap₂, ◌∙◌, subst, All}
 use Rattle.std.proofs.lemmas.List.{length-map, map-append}
-use Rattle.std.proofs.lemmas.List.Elements.{All-head, All-tail, All-append}
-use Rattle.vector_spaces.proofs.Combination.{combination as combination_of, coefficient_sum, combination-sum as sum_law, combination-scale as scale_law, combination-append as append_law}
+use Rattle.std.proofs.lemmas.List.Elements.{All-head, All-tail, All-append, All-push}
+use Rattle.vector_spaces.proofs.Combination.{combination as combination_of, coefficient_sum, combination-sum as sum_law, combination-scale as scale_law, combination-append as append_law, combination-push_zero as push_zero_law}
 use Rattle.linear_algebra.specs.Scalars.{Scalars, IsScalar, IsField}
 use Rattle.linear_algebra.specs.Vectors.{IsVector, AreVectors, vector_sum, multiple}
 use Rattle.linear_algebra.specs.Spans.{combination}
-use Rattle.linear_algebra.proofs.Elements.{scalar_field, add_elements, multiply_elements, same_element}
-use Rattle.linear_algebra.proofs.Coordinates.{list, tuple, element, element-number, list-vector, list-plus, list-scale, space}
+use Rattle.linear_algebra.proofs.Elements.{scalar_field, add_elements, same_element}
+use Rattle.linear_algebra.proofs.Coordinates.{list, tuple, element, element-number, element-product, element-zero, list-vector, list-plus, list-scale, space}
 use Rattle.linear_algebra.proofs.Transfer.{tuples_of, combination_tuples}
 use Rattle.linear_algebra.proofs.VectorLaws.{vector_sum-vector, multiple-vector}
 
@@ -23,12 +23,9 @@ module _ (S : Scalars) (F : IsField S) where
       (elements-sum cs ds (All-tail (IsScalar S) c cs h) (All-tail (IsScalar S) d ds k))
 
   elements-multiple : (a : ℕ) (cs : List ℕ) → IsScalar S a → All (IsScalar S) cs → map (element S F) (multiple S a cs) ≡ map (λ c. (scalar_field S F).◌⊠◌ (element S F a) c) (map (element S F) cs)
-  unfolding scalar_field multiply_elements
   elements-multiple a [] h k = refl
   elements-multiple a (c ∷ cs) h k =
-      let c_in = All-head (IsScalar S) c cs k in
-      ap₂ (λ x y. x ∷ y) (same_element S _ _ (element-number S F (S.product a c) (F.product_in a c h c_in) ∙ sym (ap₂ S.product (element-number S F a h) (element-number S F c c_in))))
-      (elements-multiple a cs h (All-tail (IsScalar S) c cs k))
+      ap₂ (λ x y. x ∷ y) (element-product S F a c h (All-head (IsScalar S) c cs k)) (elements-multiple a cs h (All-tail (IsScalar S) c cs k))
 
   module _ (d : ℕ) where
     pub combination-vector : (cs : List ℕ) (vs : List (List ℕ)) → All (IsScalar S) cs → AreVectors S d vs → IsVector S d (combination S d cs vs)
@@ -53,3 +50,10 @@ module _ (S : Scalars) (F : IsField S) where
         ∙ ap (list S d) (rw (map-append (element S F) cs ds, map-append (tuple S F d) vs ws)
         (append_law (scalar_field S F) (space S F d) (map (element S F) cs) (map (element S F) ds) (tuples_of S F d vs) (tuples_of S F d ws) (simp length-map h.length_is)))
         ∙ list-plus S F d _ _ ∙ ap₂ (vector_sum S) (combination_tuples S F d cs vs h.entries l) (combination_tuples S F d ds ws k m)
+
+    -- a last coefficient that is zero
+    pub combination-push_zero : (cs : List ℕ) (vs : List (List ℕ)) → All (IsScalar S) cs → AreVectors S d vs → combination S d (cs ++ S.zero ∷ []) vs ≡ combination S d cs vs
+    combination-push_zero cs vs h k =
+        sym (combination_tuples S F d (cs ++ S.zero ∷ []) vs (All-push (IsScalar S) cs S.zero h F.zero_in) k)
+        ∙ ap (list S d) (ap (λ ks. combination_of (space S F d) ks (tuples_of S F d vs)) (map-append (element S F) cs (S.zero ∷ []) ∙ ap (λ z. map (element S F) cs ++ z ∷ []) (element-zero S F)) ∙ push_zero_law (scalar_field S F) (space S F d) (map (element S F) cs) (tuples_of S F d vs))
+        ∙ combination_tuples S F d cs vs h k

@@ -1,5 +1,5 @@
 -- Vectors as the elements of a space: `list` reads a tuple of elements as a list of numbers, `tuple` a list as a tuple.
-use Rattle.std.proofs.Common.{◌≡◌, ℕ, zero, suc, ◌<◌, List, [], ◌∷◌, map, refl, ap, ap₂, ◌∙◌, arith}
+use Rattle.std.proofs.Common.{◌≡◌, ℕ, zero, suc, ◌<◌, List, [], ◌∷◌, map, refl, sym, ap, ap₂, ◌∙◌, arith}
 use Rattle.std.proofs.Math.Decide.{dec_lt}
 use Rattle.std.proofs.lemmas.List.Elements.{All-nil, All-cons, All-head, All-tail}
 use Rattle.vector_spaces.proofs.Space.{Space}
@@ -43,6 +43,14 @@ module _ (S : Scalars) (F : IsField S) where
 
   pub element-of : (a : Element S) → element a.0 ≡ a
   element-of a = same_element S (element a.0) a (element-number a.0 a.1)
+
+  pub element-product : (a b : ℕ) → IsScalar S a → IsScalar S b → element (S.product a b) ≡ (scalar_field S F).◌⊠◌ (element a) (element b)
+  unfolding scalar_field multiply_elements
+  element-product a b h k = same_element S _ _ (element-number (S.product a b) (F.product_in a b h k) ∙ sym (ap₂ S.product (element-number a h) (element-number b k)))
+
+  pub element-zero : element S.zero ≡ (scalar_field S F).zero
+  unfolding scalar_field zero_element
+  element-zero = same_element S _ _ (element-number S.zero F.zero_in)
 
   -- a list of any numbers as a tuple: what is missing, or no scalar, counts as zero
   unfoldable pub tuple : (d : ℕ) → List ℕ → Tuple (Element S) d

@@ -95,3 +95,8 @@ module _ (S : Scalars) (F : IsField S) where
     scalars = elements_below S S.order (le_refl S.order);
     every = λ a. elements_below_all S S.order (le_refl S.order) a a.1;
   }
+
+  -- of numbers
+  pub product-zero : (a : ℕ) → IsScalar S a → S.product a S.zero ≡ S.zero
+  unfolding multiply_elements zero_element
+  product-zero a h = ap (λ (t : Element S). t.0) (multiply-zero (a, h))

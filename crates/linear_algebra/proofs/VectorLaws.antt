@@ -1,5 +1,6 @@
 -- Sums and multiples of vectors are those of their tuples.
 use Rattle.std.proofs.Common.{◌≡◌, ℕ, List, sym, ap, ap₂, ◌∙◌}
+use Rattle.vector_spaces.proofs.Space.{linear}
 use Rattle.linear_algebra.specs.Scalars.{Scalars, IsScalar, IsField}
 use Rattle.linear_algebra.specs.Vectors.{IsVector, zero_vector, vector_sum, multiple}
 use Rattle.linear_algebra.proofs.Coordinates.{list, list-vector, tuple, element, element-number, list-tuple, tuple-list, space, list-null, list-plus, list-scale}
@@ -32,3 +33,12 @@ module _ (S : Scalars) (F : IsField S) (d : ℕ) where
 
   pub zero-vector : IsVector S d (zero_vector S d)
   zero-vector = rw (← list-null S F d) (list-vector S d null)
+
+  pub vector_sum_assoc : (u v w : List ℕ) → IsVector S d u → IsVector S d v → IsVector S d w → vector_sum S (vector_sum S u v) w ≡ vector_sum S u (vector_sum S v w)
+  vector_sum_assoc u v w h k l =
+      sym (list-sum (vector_sum S u v) w (vector_sum-vector u v h k) l)
+      ∙ ap (list S d) (simp (tuple-sum u v h k, tuple-sum v w k l, linear))
+      ∙ list-sum u (vector_sum S v w) h (vector_sum-vector v w k l)
+
+  pub vector_sum-zero : (v : List ℕ) → IsVector S d v → vector_sum S v (zero_vector S d) ≡ v
+  vector_sum-zero v h = sym (list-sum v (zero_vector S d) h zero-vector) ∙ ap (list S d) (simp (tuple-zero, linear)) ∙ list-tuple S F d v h

@@ -1,9 +1,9 @@
 -- Bases of a list over an independent one, and the rank that they give it.
-use Rattle.std.proofs.Common.{◌≡◌, ℕ, ◌≤◌, List, ◌++◌, length, refl, arith}
+use Rattle.std.proofs.Common.{◌≡◌, ℕ, ◌≤◌, List, ◌++◌, length, sym, arith}
 use Rattle.std.proofs.lemmas.List.{length-append}
 use Rattle.vector_spaces.proofs.Independence.{IsIndependent, independent_append, counting_bound}
 use Rattle.vector_spaces.proofs.Members.{In}
-use Rattle.vector_spaces.proofs.Ranks.{basis, basis_independent, basis_inside, basis_spans}
+use Rattle.vector_spaces.proofs.Ranks.{rank, rank-length_basis, basis, basis_independent, basis_inside, basis_spans}
 use Rattle.vector_spaces.proofs.Space.{Field, Space}
 use Rattle.vector_spaces.proofs.Span.{InSpan, span_closure, span_member}
 use Rattle.vector_spaces.proofs.Within.{Within, placing, within_append, within_members, within_trans, within_right, through, left_in}
@@ -17,18 +17,15 @@ pub record HasRankOver {K V : Type 0} {f : Field K} (s : Space f V) (us A : List
   pub length_chosen : length chosen ≡ n
 
 module _ {K V : Type 0} {f : Field K} (s : Space f V) where
-  -- the choice of a basis of A over an independent list
-  pub basis_selection : (us A : List V) → IsIndependent s us → (n : ℕ) × HasRankOver s us A n
-  basis_selection us A i = (
-    length (basis V (InSpan s) (span_closure f s) us A),
-    record {
-      chosen = basis V (InSpan s) (span_closure f s) us A;
-      chosen_in = λ v j. basis_inside V (InSpan s) (span_closure f s) us A v j;
-      independent = independent_append s us (basis V (InSpan s) (span_closure f s) us A) i (basis_independent V (InSpan s) (span_closure f s) us A);
-      spans = record { each = λ v j. through s (basis V (InSpan s) (span_closure f s) us A ++ us) (us ++ basis V (InSpan s) (span_closure f s) us A) v (search placing) (basis_spans V (InSpan s) (span_closure f s) us A v (left_in s A us v (span_member f s A v j))) };
-      length_chosen = refl;
-    },
-  )
+  -- the greedy choice is a basis of A over an independent list, so that A has its rank over that list
+  pub has_rank_over : (us A : List V) → IsIndependent s us → HasRankOver s us A (rank V (InSpan s) (span_closure f s) us A)
+  has_rank_over us A i = record {
+    chosen = basis V (InSpan s) (span_closure f s) us A;
+    chosen_in = λ v j. basis_inside V (InSpan s) (span_closure f s) us A v j;
+    independent = independent_append s us (basis V (InSpan s) (span_closure f s) us A) i (basis_independent V (InSpan s) (span_closure f s) us A);
+    spans = record { each = λ v j. through s (basis V (InSpan s) (span_closure f s) us A ++ us) (us ++ basis V (InSpan s) (span_closure f s) us A) v (search placing) (basis_spans V (InSpan s) (span_closure f s) us A v (left_in s A us v (span_member f s A v j))) };
+    length_chosen = sym (rank-length_basis V (InSpan s) (span_closure f s) us A);
+  }
 
   pub rank_over_bounds : (us A C : List V) (n : ℕ) → HasRankOver s us A n → IsIndependent s (us ++ C) → Within s C (us ++ A) → length C ≤ n
   rank_over_bounds us A C n r i h =

@@ -75,6 +75,13 @@ module _ {K V : Type 0} (f : Field K) (s : Space f V) where
   combination-zeros (suc n) [] = simp combining
   combination-zeros (suc n) (v ∷ vs) = simp (combination-zeros n vs, combining)
 
+  -- a last coefficient that is zero
+  pub combination-push_zero : (cs : List K) (vs : List V) → combination s (cs ++ o ∷ []) vs ≡ combination s cs vs
+  combination-push_zero [] [] = simp combining
+  combination-push_zero [] (v ∷ vs) = simp combining
+  combination-push_zero (c ∷ cs) [] = simp combining
+  combination-push_zero (c ∷ cs) (v ∷ vs) = simp (combination-push_zero cs vs, combining)
+
   pub span_of_combination : (cs : List K) (vs : List V) → InSpan s vs (combination s cs vs)
   span_of_combination [] vs = rw combination-none (span_null f s vs)
   span_of_combination (c ∷ cs) [] = simp combining

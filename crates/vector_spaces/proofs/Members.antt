@@ -67,3 +67,8 @@ In-contains xs x c = at xs c.0 c.1 c.2
     at [] k h e = absurd (omega arith)
     at (y ∷ ys) zero h e = inl (sym e)
     at (y ∷ ys) (suc k) h e = inr (at ys k (omega arith) e)
+
+pub In-get_or : {X : Type 0} (xs : List X) (i : ℕ) (d : X) → i < length xs → In (get_or xs i d) xs
+In-get_or [] i d h = absurd (omega arith)
+In-get_or (x ∷ xs) zero d h = inl refl
+In-get_or (x ∷ xs) (suc i) d h = inr (In-get_or xs i d (omega arith))

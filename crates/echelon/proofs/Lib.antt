@@ -1,0 +1,9 @@
+pub mod Eliminations
+pub mod Transfers
+pub mod Reduction
+pub mod Residue
+pub mod Cosets
+pub mod Insertion
+pub mod Prefixes
+pub mod Loops
+pub mod Found

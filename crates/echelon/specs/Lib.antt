@@ -1,0 +1,4 @@
+pub mod Leads
+pub mod Steps
+pub mod Inserted
+pub mod Residues

@@ -1,0 +1,5 @@
+pub mod Lines
+pub mod Positions
+pub mod Coordinates
+pub mod Duality
+pub mod Parts

@@ -1,0 +1,3 @@
+mod ByteSteps
+mod Remainders
+mod Sums

@@ -1,0 +1,6 @@
+pub mod Bytes
+pub mod FieldName
+pub mod Modular
+pub mod Prime
+pub mod ScalarsOf
+pub mod Laws
