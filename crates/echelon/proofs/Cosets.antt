@@ -3,8 +3,9 @@ use Rattle.std.proofs.Common.{◌≡◌, ◌≢◌, ℕ, zero, suc, ◌<◌, Lis
 use Rattle.std.proofs.lemmas.List.{get_or-replicate}
 use Rattle.echelon.proofs.Transfers.{coordinate, coordinate-linear, coordinate-zero, zero-coordinate}
 use Rattle.echelon.specs.Residues.{IsLeading, IsResidue, IsCongruent}
+use Rattle.linear_algebra.proofs.Combinations.{span_vector}
 use Rattle.linear_algebra.proofs.Coordinates.{tuple, space, list, list-vector, list-tuple, tuple-list, list-plus, list-null}
-use Rattle.linear_algebra.proofs.SpanLaws.{span-vector, span_zero}
+use Rattle.linear_algebra.proofs.SpanLaws.{span_zero}
 use Rattle.linear_algebra.proofs.Elements.{Element, scalar_field}
 use Rattle.linear_algebra.proofs.Transfer.{tuples_of, span_to_tuples, span_from_tuples}
 use Rattle.linear_algebra.proofs.VectorLaws.{tuple-sum, zero-vector}
@@ -59,7 +60,7 @@ module _ (S : Scalars) (F : IsField S) (d : ℕ) (vs : List (List ℕ)) (V : Are
 
   -- the tuple of a residue
   residue_tuple : (v a : List ℕ) → IsVector S d v → (r : IsResidue S d vs v a) → tuple S F d a ≡ tuple S F d v ⊕ tuple S F d r.added
-  residue_tuple v a h r = ap (tuple S F d) r.sum ∙ tuple-sum S F d v r.added h (span-vector S F d vs r.added V r.in_span)
+  residue_tuple v a h r = ap (tuple S F d) r.sum ∙ tuple-sum S F d v r.added h (span_vector S F d vs r.added V r.in_span)
 
   -- of vectors with one residue one is the other and an element of the span
   pub same_residue : (v w a : List ℕ) → IsVector S d v → IsVector S d w → IsResidue S d vs v a → IsResidue S d vs w a → IsCongruent S d vs v w
@@ -84,7 +85,7 @@ module _ (S : Scalars) (F : IsField S) (d : ℕ) (vs : List (List ℕ)) (V : Are
       let u = tuple S F d c.added in
       let y = tuple S F d r.added in
       let z = tuple S F d q.added in
-      let sum : tuple S F d a ≡ x ⊕ u ⊕ y = residue_tuple v a h r ∙ ap (λ t. t ⊕ y) (ap (tuple S F d) c.sum ∙ tuple-sum S F d w c.added k (span-vector S F d vs c.added V c.in_span)) in
+      let sum : tuple S F d a ≡ x ⊕ u ⊕ y = residue_tuple v a h r ∙ ap (λ t. t ⊕ y) (ap (tuple S F d) c.sum ∙ tuple-sum S F d w c.added k (span_vector S F d vs c.added V c.in_span)) in
       let is_that : minus_of (tuple S F d a) (tuple S F d b) ≡ minus_of (u ⊕ y) z = ap₂ minus_of sum (residue_tuple w b k q) ∙ ap (λ t. t ⊕ (scalar_field S F).minus · (x ⊕ z)) ((space S F d).plus_assoc x u y) ∙ same_part_cancels (scalar_field S F) (space S F d) x (u ⊕ y) z in
       subst (InSpan_of (space S F d) (tuples_of S F d vs)) (sym is_that)
       (span_minus (scalar_field S F) (space S F d) (tuples_of S F d vs) (u ⊕ y) z

@@ -1,11 +1,11 @@
 -- Combinations are vectors, and linear in the coefficients.
-use Rattle.std.proofs.Common.{◌≡◌, ℕ, List, [], ◌∷◌, ◌++◌, length, map, refl, sym, ap, ap₂, ◌∙◌, subst, All}
+use Rattle.std.proofs.Common.{◌≡◌, ℕ, zero, suc, List, [], ◌∷◌, ◌++◌, length, map, refl, sym, ap, ap₂, ◌∙◌, subst, append-nil, append_assoc, All}
 use Rattle.std.proofs.lemmas.List.{length-map, map-append}
-use Rattle.std.proofs.lemmas.List.Elements.{All-head, All-tail, All-append, All-push}
+use Rattle.std.proofs.lemmas.List.Elements.{All-head, All-tail, All-append, All-push, All-weaker}
 use Rattle.vector_spaces.proofs.Combination.{combination as combination_of, coefficient_sum, combination-sum as sum_law, combination-scale as scale_law, combination-append as append_law, combination-push_zero as push_zero_law}
 use Rattle.linear_algebra.specs.Scalars.{Scalars, IsScalar, IsField}
-use Rattle.linear_algebra.specs.Vectors.{IsVector, AreVectors, vector_sum, multiple}
-use Rattle.linear_algebra.specs.Spans.{combination}
+use Rattle.linear_algebra.specs.Vectors.{IsVector, AreVectors, zero_vector, vector_sum, multiple}
+use Rattle.linear_algebra.specs.Spans.{combination, InSpan}
 use Rattle.linear_algebra.proofs.Elements.{scalar_field, add_elements, same_element}
 use Rattle.linear_algebra.proofs.Coordinates.{list, tuple, element, element-number, element-product, element-zero, list-vector, list-plus, list-scale, space}
 use Rattle.linear_algebra.proofs.Transfer.{tuples_of, combination_tuples}
@@ -57,3 +57,18 @@ module _ (S : Scalars) (F : IsField S) where
         sym (combination_tuples S F d (cs ++ S.zero ∷ []) vs (All-push (IsScalar S) cs S.zero h F.zero_in) k)
         ∙ ap (list S d) (ap (λ ks. combination_of (space S F d) ks (tuples_of S F d vs)) (map-append (element S F) cs (S.zero ∷ []) ∙ ap (λ z. map (element S F) cs ++ z ∷ []) (element-zero S F)) ∙ push_zero_law (scalar_field S F) (space S F d) (map (element S F) cs) (tuples_of S F d vs))
         ∙ combination_tuples S F d cs vs h k
+
+    -- last coefficients that are zero
+    pub combination-push_zeros : (n : ℕ) (cs : List ℕ) (vs : List (List ℕ)) → All (IsScalar S) cs → AreVectors S d vs → combination S d (cs ++ zero_vector S n) vs ≡ combination S d cs vs
+    combination-push_zeros zero cs vs h k = ap (λ ds. combination S d ds vs) (append-nil cs)
+    combination-push_zeros (suc n) cs vs h k =
+        ap (λ ds. combination S d ds vs) (sym (append_assoc cs (S.zero ∷ []) (zero_vector S n)))
+        ∙ combination-push_zeros n (cs ++ S.zero ∷ []) vs (All-push (IsScalar S) cs S.zero h F.zero_in) k
+        ∙ combination-push_zero cs vs h k
+
+    -- what is in the span of vectors is a vector
+    pub span_vector : (vs : List (List ℕ)) (x : List ℕ) → AreVectors S d vs → InSpan S d vs x → IsVector S d x
+    span_vector vs x h c = subst (IsVector S d) c.combine.gives (combination-vector c.coefficients vs c.combine.one_each.entries h)
+
+    pub spanned_vectors : (vs us : List (List ℕ)) → AreVectors S d vs → All (InSpan S d vs) us → AreVectors S d us
+    spanned_vectors vs us h k = All-weaker (InSpan S d vs) (IsVector S d) (λ x. span_vector vs x h) us k

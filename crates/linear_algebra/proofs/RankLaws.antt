@@ -1,5 +1,5 @@
 -- The rank of appends, and its bounds.
-use Rattle.std.proofs.Common.{◌≡◌, ℕ, ◌+◌, ◌≤◌, List, [], ◌++◌, length, sym, ap, ap₂, ◌∙◌, arith, append-nil, append_assoc, All}
+use Rattle.std.proofs.Common.{◌≡◌, ℕ, ◌+◌, ◌-◌, ◌≤◌, le_antisymm, List, [], ◌++◌, length, sym, ap, ap₂, ◌∙◌, arith, append-nil, append_assoc, All}
 use Rattle.std.proofs.lemmas.List.{length-map, map-append}
 use Rattle.std.proofs.lemmas.List.Elements.{All-append}
 use Rattle.vector_spaces.proofs.Ranks.{rank-append as append_law, rank_le_length as length_law, rank_monotone, rank_of_independent as independent_law, independent_of_rank as rank_law}
@@ -13,7 +13,8 @@ use Rattle.linear_algebra.proofs.Elements.{Element, scalar_field}
 use Rattle.linear_algebra.proofs.Coordinates.{tuple, space}
 use Rattle.linear_algebra.proofs.Transfer.{tuples_of, independent_to_tuples, independent_from_tuples}
 use Rattle.linear_algebra.proofs.Ranks.{rank_of_tuples, rank-tuples}
-use Rattle.linear_algebra.proofs.SpanLaws.{within_tuples}
+use Rattle.linear_algebra.proofs.SpanLaws.{within_tuples, span_append_left, span_member}
+use Rattle.vector_spaces.proofs.Members.{all-In, In-all, In-append_right}
 
 module _ (S : Scalars) (F : IsField S) (d : ℕ) where
   -- the rank of the tuples of an append
@@ -65,3 +66,27 @@ module _ (S : Scalars) (F : IsField S) (d : ℕ) where
   pub independent_of_rank : (vs : List (List ℕ)) → AreVectors S d vs → rank S d vs ≡ length vs → IsIndependent S d vs
   independent_of_rank vs h e = independent_from_tuples S F d vs h
       (rank_law (Tuple (Element S) d) (InSpan_of (space S F d)) (span_closure (scalar_field S F) (space S F d)) [] (tuples_of S F d vs) (sym (rank-tuples S F d vs h) ∙ e ∙ sym (length-map vs (tuple S F d))))
+
+  -- lists in the span of each other have one rank
+  pub rank_same : (us vs : List (List ℕ)) → AreVectors S d us → AreVectors S d vs → All (InSpan S d vs) us → All (InSpan S d us) vs → rank S d us ≡ rank S d vs
+  rank_same us vs h k a b = le_antisymm (rank_le us vs h k a) (rank_le vs us k h b)
+
+  -- and as much is added to both
+  pub rank_over_same : (us ws vs : List (List ℕ)) → AreVectors S d us → AreVectors S d ws → AreVectors S d vs → All (InSpan S d ws) us → All (InSpan S d us) ws → rank_over S d us vs ≡ rank_over S d ws vs
+  rank_over_same us ws vs h k l a b =
+      ap₂ (λ m n. m - n) (rank_same (us ++ vs) (ws ++ vs) (All-append (IsVector S d) us vs h l) (All-append (IsVector S d) ws vs k l) (both us ws h k a) (both ws us k h b)) (rank_same us ws h k a b)
+    where
+      both : (xs ys : List (List ℕ)) → AreVectors S d xs → AreVectors S d ys → All (InSpan S d ys) xs → All (InSpan S d (ys ++ vs)) (xs ++ vs)
+      both xs ys m n c =
+          let all = All-append (IsVector S d) ys vs n l in
+          All-append (InSpan S d (ys ++ vs)) xs vs
+          (all-In (InSpan S d (ys ++ vs)) xs (λ x i. span_append_left S F d ys vs x all (In-all (IsVector S d) xs m x i) (In-all (InSpan S d ys) xs c x i)))
+          (all-In (InSpan S d (ys ++ vs)) vs (λ x i. span_member S F d (ys ++ vs) x all (In-append_right x ys vs i)))
+
+  -- no more is added than there are vectors
+  pub rank_over_le_length : (us vs : List (List ℕ)) → AreVectors S d us → AreVectors S d vs → rank_over S d us vs ≤ length vs
+  rank_over_le_length us vs h k =
+      let e = rank_over-tuples us vs h k in
+      let l = length_law (Tuple (Element S) d) (InSpan_of (space S F d)) (span_closure (scalar_field S F) (space S F d)) (tuples_of S F d us) (tuples_of S F d vs) in
+      let m = length-map vs (tuple S F d) in
+      omega arith

@@ -8,14 +8,10 @@ use Rattle.linear_algebra.specs.Vectors.{IsVector, AreVectors, zero_vector, vect
 use Rattle.linear_algebra.specs.Spans.{InSpan}
 use Rattle.linear_algebra.proofs.Elements.{scalar_field}
 use Rattle.linear_algebra.proofs.Coordinates.{tuple, element, space}
-use Rattle.linear_algebra.proofs.Combinations.{combination-vector}
 use Rattle.linear_algebra.proofs.Transfer.{tuples_of, span_to_tuples, span_from_tuples}
 use Rattle.linear_algebra.proofs.VectorLaws.{tuple-sum, tuple-multiple, tuple-zero, vector_sum-vector, multiple-vector, zero-vector}
 
 module _ (S : Scalars) (F : IsField S) (d : ℕ) where
-  pub span-vector : (vs : List (List ℕ)) (x : List ℕ) → AreVectors S d vs → InSpan S d vs x → IsVector S d x
-  span-vector vs x h k = subst (IsVector S d) k.combine.gives (combination-vector S F d k.coefficients vs k.combine.one_each.entries h)
-
   pub span_decidable : (vs : List (List ℕ)) (x : List ℕ) → AreVectors S d vs → IsVector S d x → Dec (InSpan S d vs x)
   span_decidable vs x h k = go (decide_span (scalar_field S F) (space S F d) (tuples_of S F d vs) (tuple S F d x))
     where

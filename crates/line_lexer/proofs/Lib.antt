@@ -1,0 +1,11 @@
+pub mod Positions
+pub mod Lines
+pub mod Words
+pub mod Places
+pub mod FirstLine
+pub mod NextWord
+pub mod Spelled
+pub mod WordsOfLines
+pub mod FaultStays
+pub mod SameFront
+pub mod Examples

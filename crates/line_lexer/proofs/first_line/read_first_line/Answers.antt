@@ -1,0 +1,44 @@
+use Rattle.std.proofs.Common.{rules, arith}
+use Rattle.line_lexer.proofs.FirstLine.{content-is, is_bad, is_passed_over, has_words}
+use Rattle.line_lexer.proofs.first_line.read_first_line.Goals as goal
+
+pub returns-then-not-is_plain-clause-line : goal.returns-then-not-is_plain-clause-line
+returns-then-not-is_plain-clause-line c =
+    is_bad _ c.without_return-line.result.now c.line_end-len.result c.comment_start-end.result _
+    (record {
+      some = c.requires;
+      len_is = c.line_end-len.ensures.value;
+      next_is = search rules;
+      content = content-is _ _ _ _ c.without_return-line.ensures c.comment_start-end.ensures.value;
+    })
+    (search rules)
+
+pub returns-then-start-end-clause-line : goal.returns-then-start-end-clause-line
+returns-then-start-end-clause-line c =
+    let content = content-is _ _ _ _ c.without_return-line.ensures c.comment_start-end.ensures.value in (
+      has_words _ c.without_return-line.result.now c.line_end-len.result c.comment_start-end.result _ _
+          (record {
+            some = c.requires;
+            len_is = c.line_end-len.ensures.value;
+            next_is = search rules;
+            content = content;
+          })
+          (search rules)
+          c.word_start-start.ensures.value
+          (search rules),
+      omega arith,
+      content.within,
+    )
+
+pub returns-else-start-end-clause-line : goal.returns-else-start-end-clause-line
+returns-else-start-end-clause-line c =
+    is_passed_over _ c.without_return-line.result.now c.line_end-len.result c.comment_start-end.result _ _
+    (record {
+      some = c.requires;
+      len_is = c.line_end-len.ensures.value;
+      next_is = search rules;
+      content = content-is _ _ _ _ c.without_return-line.ensures c.comment_start-end.ensures.value;
+    })
+    (search rules)
+    c.word_start-start.ensures.value
+    (search rules)

@@ -1,0 +1,29 @@
+//! The lines and words of a text, and a lexer that goes over them and takes no memory.
+//!
+//! What lines, comments, words and bad bytes are stands in `specs/Bytes.antt` and `specs/Lines.antt`, over all bytes of a
+//! text, and numbers in `specs/Numbers.antt`; `proofs/Examples.antt` shows them at small texts. `specs/Seen.antt` and
+//! `specs/Steps.antt` say what each call of `Lexer` does. That it finds each line and each word is proved by
+//! `proofs/FirstLine.antt` and `proofs/NextWord.antt`. Lines that are written as `specs/Words.antt` says are read again:
+//! `proofs/Spelled.antt`.
+//!
+//! A pass over a text takes time in proportion to its length. This is so by the way the code goes, and isn't proved.
+#![tactic(auto)]
+
+mod count;
+mod fault;
+mod first_line;
+mod laws;
+mod lexer;
+mod next_line;
+mod number;
+mod refusal;
+mod scan;
+#[cfg(test)]
+mod tests;
+mod token;
+
+pub use fault::{LexFault, TextFault};
+pub use laws::{a_fault_stays, lines_have_words, spelled_lines_are_read};
+pub use lexer::Lexer;
+pub use refusal::{Counted, TextRefusal};
+pub use token::Token;

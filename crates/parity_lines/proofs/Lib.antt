@@ -1,0 +1,6 @@
+pub mod Border
+pub mod EasyHalf
+pub mod Growth
+pub mod IndependentLines
+pub mod LinePairs
+pub mod Relations

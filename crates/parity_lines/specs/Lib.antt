@@ -1,0 +1,8 @@
+pub mod Problems
+pub mod LineSets
+pub mod Certificates
+pub mod Shown
+pub mod PartLists
+pub mod Grown
+pub mod Independence
+pub mod Relations

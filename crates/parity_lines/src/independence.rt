@@ -1,0 +1,122 @@
+//! Whether a set of lines is independent.
+
+ghost use Rattle.std.specs.Prelude.{◌≡◌, ◌≢◌, ◌<◌, ◌+◌, ◌*◌, ◌++◌, ℕ, All, IfOk, MatchOption, cond, length, map};
+ghost use Rattle.parity_lines.specs.Independence.{TellsIndependence};
+ghost use Rattle.parity_lines.specs.Relations.{IsDifference, IsLeadInverse, IsMonicMultiple, IsMonicRelation};
+ghost use Rattle.linear_algebra.specs.Vectors.{zero_vector};
+
+use crate::{LineSet, Problem};
+use echelon::{Echelon, Inserted};
+use field_core::{Field, Row};
+use std::alloc::{AllocError, Global};
+
+/// What was found of a set of lines.
+#[derive(Drop)]
+pub enum Independence<F: Field> {
+    /// Its vectors are independent.
+    Independent,
+    /// These coefficients, two a line in order, combine its vectors to zero; the first that isn't zero is one.
+    Relation(Row<F>),
+}
+
+/// Puts two zeros behind for each of `pairs`.
+fn push_zero_pairs<F: Field>(entries: &mut Vec<F>, pairs: usize) -> Result<(), AllocError>
+    ensures { IfOk result (λ _. map F.number entries.new.items ≡ map F.number entries.old.items ++ zero_vector F.scalars (2 * pairs)) }
+{
+    for _pair in 0..pairs {
+        entries.push(F::zero())?;
+        entries.push(F::zero())?;
+    }
+    Ok(())
+}
+
+/// The relation in which the vector after those with these coefficients is taken away: the coefficients, minus
+/// one, and zeros for the other vectors. Behind the vector come the second of its line, where it is the first,
+/// and two for each of the lines left.
+fn difference<F: Field>(
+    alloc: Global,
+    coefficients: &[F],
+    is_first: bool,
+    lines_left: usize,
+) -> Result<Row<F>, AllocError>
+    ensures { IfOk result (IsDifference F.scalars (map F.number coefficients.now) (cond is_first 1 0 + 2 * lines_left)) }
+{
+    let mut entries = Vec::new(alloc);
+    entries.extend_from_slice(coefficients)?;
+    entries.push(F::one().neg())?;
+    if is_first {
+        entries.push(F::zero())?;
+    }
+    push_zero_pairs(&mut entries, lines_left)?;
+    Row::copy_of(alloc, &entries)
+}
+
+/// The inverse of the first entry that isn't zero.
+fn lead_inverse<F: Field>(v: &[F]) -> Option<F>
+    ensures { MatchOption result (map F.number v.now ≡ zero_vector F.scalars (length v.now)) (λ inverse. IsLeadInverse F.scalars (map F.number v.now) (F.number inverse)) }
+{
+    for x in v {
+        if let Some(inverse) = x.inverse() {
+            return Some(inverse);
+        }
+    }
+    None
+}
+
+/// Multiplies a row that isn't zero so that its first entry that isn't zero is one.
+fn make_monic<F: Field>(row: &mut Row<F>)
+    requires { row.old ≢ zero_vector F.scalars (length row.old) }
+    ensures { IsMonicMultiple F.scalars row.old row.new }
+{
+    if let Some(inverse) = lead_inverse(row.as_slice()) {
+        row.multiply(inverse);
+    }
+}
+
+/// The same relation, multiplied so that the first coefficient that isn't zero is one.
+fn relation<F: Field>(
+    alloc: Global,
+    coefficients: &[F],
+    is_first: bool,
+    lines_left: usize,
+) -> Result<Row<F>, AllocError>
+    ensures { IfOk result (IsMonicRelation F.scalars (map F.number coefficients.now) (cond is_first 1 0 + 2 * lines_left)) }
+{
+    let mut row = difference(alloc, coefficients, is_first, lines_left)?;
+    make_monic(&mut row);
+    Ok(row)
+}
+
+/// Tells whether the vectors of the lines, two a line in order, are independent.
+pub fn is_independent<F: Field>(
+    alloc: Global,
+    problem: &Problem<F>,
+    set: &LineSet,
+) -> Result<Independence<F>, AllocError>
+    requires { All (λ m. m < length problem.now.lines) set.now }
+    ensures { IfOk result (TellsIndependence F.scalars problem.now set.now) }
+{
+    let _lines = problem.len();
+    let mut basis = Echelon::new(alloc, problem.dimension())?;
+    for i in 0..set.len() {
+        let line = set.at(i);
+        let left = set.len() - i - 1;
+        if let Inserted::Old(coefficients) = basis.insert(problem.first(line))? {
+            return Ok(Independence::Relation(relation(
+                alloc,
+                coefficients.as_slice(),
+                true,
+                left,
+            )?));
+        }
+        if let Inserted::Old(coefficients) = basis.insert(problem.second(line))? {
+            return Ok(Independence::Relation(relation(
+                alloc,
+                coefficients.as_slice(),
+                false,
+                left,
+            )?));
+        }
+    }
+    Ok(Independence::Independent)
+}

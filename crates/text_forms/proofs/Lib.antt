@@ -1,0 +1,12 @@
+pub mod Taking
+pub mod Numerals
+pub mod PlacesTake
+pub mod PositionsTake
+pub mod ListsTake
+pub mod LinesTake
+pub mod Causal
+pub mod Faults
+pub mod CausalTexts
+pub mod Written
+pub mod Due
+pub mod Loops

@@ -1,0 +1,6 @@
+pub mod Reading
+pub mod Places
+pub mod Forms
+pub mod Gives
+pub mod Spelling
+pub mod Causality

@@ -1,0 +1,32 @@
+//! What a text is due to have, place by place and line by line, its first fault, and readers over a lexer.
+//!
+//! A form of a text is a reader of lists (`specs/Reading.antt`): `specs/Places.antt` has the places of a line, and
+//! `specs/Forms.antt` the lines of a text. The first fault is the first refusal from left to right. Each reader of the
+//! code gives exactly what its form gives, as `specs/Gives.antt` says, and takes no memory. After a refusal the lexer has
+//! the same bytes, and stands somewhere on the lines that were read; a reader of a place leaves the line.
+//!
+//! Above the forms stand laws. `specs/Spelling.antt`: a form gives a value exactly where the words spell it
+//! (`proofs/Taking.antt`, `PlacesTake.antt`, `ListsTake.antt`, `LinesTake.antt`). `specs/Causality.antt`: what a form gives
+//! depends on the lines that it takes alone (`proofs/Causal.antt`, `CausalTexts.antt`). Lines that are written are read
+//! again (`proofs/Written.antt`). `proofs/Loops.antt` has what a loop over places keeps.
+#![tactic(auto)]
+
+mod laws;
+mod lines;
+mod places;
+#[cfg(test)]
+mod tests;
+mod words;
+
+pub use laws::{
+    chains_are_causal, chains_read_in_order, lines_are_causal, lines_are_due, lines_are_used_up,
+    lines_give_what_is_spelled, lists_give_what_is_spelled, numerals_are_read,
+    places_fault_on_their_line, places_give_what_is_spelled, refusals_are_causal,
+    written_lines_are_read,
+};
+pub use lines::{alone_line, counted_line, due_line, limited_line, read_end, version_line};
+pub use places::{
+    entry_word, fixed_word, limited_number, number_word, position_or_end, position_word,
+    version_word,
+};
+pub use words::{due_word, end_of_line};
