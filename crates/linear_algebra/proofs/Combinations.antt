@@ -6,21 +6,18 @@ use Rattle.vector_spaces.proofs.Combination.{combination as combination_of, coef
 use Rattle.linear_algebra.specs.Scalars.{Scalars, IsScalar, IsField}
 use Rattle.linear_algebra.specs.Vectors.{IsVector, AreVectors, zero_vector, vector_sum, multiple}
 use Rattle.linear_algebra.specs.Spans.{combination, InSpan}
-use Rattle.linear_algebra.proofs.Elements.{scalar_field, add_elements, same_element}
-use Rattle.linear_algebra.proofs.Coordinates.{list, tuple, element, element-number, element-product, element-zero, list-vector, list-plus, list-scale, space}
+use Rattle.linear_algebra.proofs.Elements.{scalar_field}
+use Rattle.linear_algebra.proofs.Coordinates.{list, tuple, element, element-number, element-sum, element-product, element-zero, list-vector, list-plus, list-scale, space}
 use Rattle.linear_algebra.proofs.Transfer.{tuples_of, combination_tuples}
 use Rattle.linear_algebra.proofs.VectorLaws.{vector_sum-vector, multiple-vector}
 
 module _ (S : Scalars) (F : IsField S) where
   elements-sum : (cs ds : List ℕ) → All (IsScalar S) cs → All (IsScalar S) ds → map (element S F) (vector_sum S cs ds) ≡ coefficient_sum (scalar_field S F) (map (element S F) cs) (map (element S F) ds)
-  unfolding vector_sum scalar_field add_elements
+  unfolding vector_sum
   elements-sum [] ds h k = refl
   elements-sum (c ∷ cs) [] h k = refl
   elements-sum (c ∷ cs) (d ∷ ds) h k =
-      let c_in = All-head (IsScalar S) c cs h in
-      let d_in = All-head (IsScalar S) d ds k in
-      ap₂ (λ x y. x ∷ y) (same_element S _ _ (element-number S F (S.sum c d) (F.sum_in c d c_in d_in) ∙ sym (ap₂ S.sum (element-number S F c c_in) (element-number S F d d_in))))
-      (elements-sum cs ds (All-tail (IsScalar S) c cs h) (All-tail (IsScalar S) d ds k))
+      ap₂ (λ x y. x ∷ y) (element-sum S F c d (All-head (IsScalar S) c cs h) (All-head (IsScalar S) d ds k)) (elements-sum cs ds (All-tail (IsScalar S) c cs h) (All-tail (IsScalar S) d ds k))
 
   elements-multiple : (a : ℕ) (cs : List ℕ) → IsScalar S a → All (IsScalar S) cs → map (element S F) (multiple S a cs) ≡ map (λ c. (scalar_field S F).◌⊠◌ (element S F a) c) (map (element S F) cs)
   elements-multiple a [] h k = refl

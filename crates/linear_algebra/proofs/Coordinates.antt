@@ -44,6 +44,10 @@ module _ (S : Scalars) (F : IsField S) where
   pub element-of : (a : Element S) → element a.0 ≡ a
   element-of a = same_element S (element a.0) a (element-number a.0 a.1)
 
+  pub element-sum : (a b : ℕ) → IsScalar S a → IsScalar S b → element (S.sum a b) ≡ (scalar_field S F).◌⊞◌ (element a) (element b)
+  unfolding scalar_field add_elements
+  element-sum a b h k = same_element S _ _ (element-number (S.sum a b) (F.sum_in a b h k) ∙ sym (ap₂ S.sum (element-number a h) (element-number b k)))
+
   pub element-product : (a b : ℕ) → IsScalar S a → IsScalar S b → element (S.product a b) ≡ (scalar_field S F).◌⊠◌ (element a) (element b)
   unfolding scalar_field multiply_elements
   element-product a b h k = same_element S _ _ (element-number (S.product a b) (F.product_in a b h k) ∙ sym (ap₂ S.product (element-number a h) (element-number b k)))

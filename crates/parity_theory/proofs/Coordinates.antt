@@ -1,7 +1,9 @@
 -- Coordinates over a list of lines, a pair of scalars for each.
-use Rattle.std.proofs.Common.{◌≡◌, ◌≢◌, ℕ, suc, ◌⊎◌, inl, inr, List, [], ◌∷◌, ◌++◌, length, refl, sym, ap, ap₂, ◌∙◌, arith}
-use Rattle.parity_theory.proofs.Lines.{vectors, line_combination, NonZero, At}
+use Rattle.std.proofs.Common.{◌≡◌, ◌≢◌, ℕ, suc, ◌⊎◌, inl, inr, List, [], ◌∷◌, ◌++◌, length, refl, sym, ap, ◌∙◌, arith}
+use Rattle.parity_theory.proofs.Entries.{At}
+use Rattle.parity_theory.proofs.Lines.{vectors, line_combination}
 use Rattle.parity_theory.proofs.Positions.{within_middle}
+use Rattle.vector_spaces.proofs.Pairs.{NonZero, IsZero, zero_or_nonzero}
 use Rattle.vector_spaces.proofs.Space.{Field, Space, linear}
 use Rattle.vector_spaces.proofs.Span.{InSpan, span_null}
 use Rattle.vector_spaces.proofs.Splits.{pivot_in}
@@ -74,26 +76,12 @@ module _ {K V : Type 0} {f : Field K} (s : Space f V) (line : ℕ → V × V) wh
       let g' : InSpan s ((line m).0 ∷ x ∷ vectors line (P ++ Q)) (line m).1 = through s (x ∷ (line m).0 ∷ vectors line (P ++ Q)) ((line m).0 ∷ x ∷ vectors line (P ++ Q)) (line m).1 (search placing) g in
       ((line m).0, within_trans s (vectors line (P ++ m ∷ Q)) (vectors line (m ∷ P ++ Q)) ((line m).0 ∷ x ∷ vectors line (P ++ Q)) (within_middle s line P m Q) (search (g', placing)))
 
-  pub nonzero_decide : (p : K × K) → NonZero f p ⊎ (p ≡ (o, o))
-  nonzero_decide p = go (f.same_scalar p.0 o) (f.same_scalar p.1 o)
-    where
-      go : Dec (p.0 ≡ o) → Dec (p.1 ≡ o) → NonZero f p ⊎ (p ≡ (o, o))
-      go (no n) r = inl (inl n)
-      go (yes a) (no n) = inl (inr n)
-      go (yes a) (yes b) = inr (ap₂ (λ x y. (x, y)) a b)
-
   -- a combination that is not null has a line in its support
   pub support_line : (M : List ℕ) (cs : List (K × K)) → line_combination s line cs M ≢ null → (m : ℕ) × (p : K × K) × At m p M cs × NonZero f p
   support_line M [] n = absurd (n (line_combination-none s line M))
   support_line [] (c ∷ cs) n = absurd (n (line_combination-nil s line (c ∷ cs)))
-  support_line (m ∷ M) (c ∷ cs) n = go (nonzero_decide c) (support_line M cs)
+  support_line (m ∷ M) (c ∷ cs) n = go (zero_or_nonzero f c) (support_line M cs)
     where
-      go : NonZero f c ⊎ (c ≡ (o, o)) → (line_combination s line cs M ≢ null → (l : ℕ) × (p : K × K) × At l p M cs × NonZero f p) → (l : ℕ) × (p : K × K) × At l p (m ∷ M) (c ∷ cs) × NonZero f p
-      go (inl z) ih = (m, c, inl (refl, refl), z)
-      go (inr z) ih = let r = ih (λ q. n (line_combination-cons s line c cs m M ∙ ap (λ (d : K × K). d.0 · (line m).0 ⊕ d.1 · (line m).1 ⊕ line_combination s line cs M) z ∙ simp (q, linear))) in (r.0, r.1, inr r.2, r.3)
-
-pub at_split : {X : Type 0} (m : ℕ) (p : X) (M : List ℕ) (cs : List X) → At m p M cs → (P : List ℕ) × (Q : List ℕ) × (c : List X) × (d : List X) × (M ≡ P ++ m ∷ Q) × (cs ≡ c ++ p ∷ d) × (length c ≡ length P)
-at_split m p [] cs h = absurd h
-at_split m p (l ∷ M) [] h = absurd h
-at_split m p (l ∷ M) (e ∷ cs) (inl h) = ([], M, [], cs, ap (λ x. x ∷ M) (sym h.0), ap (λ x. x ∷ cs) (sym h.1), refl)
-at_split m p (l ∷ M) (e ∷ cs) (inr h) = let r = at_split m p M cs h in (l ∷ r.0, r.1, e ∷ r.2, r.3, ap (λ t. l ∷ t) r.4, ap (λ t. e ∷ t) r.5, ap suc r.6)
+      go : IsZero f c ⊎ NonZero f c → (line_combination s line cs M ≢ null → (l : ℕ) × (p : K × K) × At l p M cs × NonZero f p) → (l : ℕ) × (p : K × K) × At l p (m ∷ M) (c ∷ cs) × NonZero f p
+      go (inr z) ih = (m, c, inl (refl, refl), z)
+      go (inl z) ih = let r = ih (λ q. n (line_combination-cons s line c cs m M ∙ rw (z.0, z.1, q) (simp linear))) in (r.0, r.1, inr r.2, r.3)

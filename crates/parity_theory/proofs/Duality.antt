@@ -1,12 +1,15 @@
 -- The easy half: a kernel and parts bound the size of independent sets of lines.
 use Rattle.std.proofs.Common.{◌≡◌, ◌≢◌, ℕ, suc, ◌+◌, ◌≤◌, ◌⊎◌, inl, inr, List, [], ◌∷◌, ◌++◌, length, sym, ap, ◌∙◌, subst, arith, append-nil, append_assoc}
 use Rattle.std.proofs.lemmas.List.{length-append}
-use Rattle.parity_theory.proofs.Coordinates.{line_combination_of_span, pivot_line, support_line, at_split}
-use Rattle.parity_theory.proofs.Lines.{vectors, line_combination, NonZero}
-use Rattle.parity_theory.proofs.Positions.{length-missing, length-middle, length-vectors, within_lines}
+use Rattle.parity_theory.proofs.Coordinates.{line_combination_of_span, pivot_line, support_line}
+use Rattle.parity_theory.proofs.Entries.{at_split}
+use Rattle.parity_theory.proofs.Lines.{vectors, line_combination}
+use Rattle.parity_theory.proofs.Positions.{length-missing, length-vectors, within_lines}
 use Rattle.vector_spaces.proofs.Bases.{HasRankOver, rank_over_bounds}
 use Rattle.vector_spaces.proofs.Independence.{IsIndependent, same_length_independent, independent_left, independent_right, appended_is_outside, span_decidable}
 use Rattle.vector_spaces.proofs.Members.{In}
+use Rattle.vector_spaces.proofs.Middles.{length-middle}
+use Rattle.vector_spaces.proofs.Pairs.{NonZero}
 use Rattle.vector_spaces.proofs.Space.{Field, Space, move, null-plus}
 use Rattle.vector_spaces.proofs.Span.{InSpan, span_minus}
 use Rattle.vector_spaces.proofs.Splits.{span_split}

@@ -1,5 +1,6 @@
 -- Lines are pairs of vectors, known by their positions. Coordinates over a list of lines are a pair of scalars for each.
-use Rattle.std.proofs.Common.{◌≡◌, ◌≢◌, ℕ, ◌⊎◌, List, [], ◌∷◌}
+use Rattle.std.proofs.Common.{ℕ, List, [], ◌∷◌, ◌++◌}
+use Rattle.vector_spaces.proofs.Independence.{IsIndependent}
 use Rattle.vector_spaces.proofs.Space.{Field, Space}
 
 -- both vectors of each line, in order
@@ -13,12 +14,10 @@ line_combination s line [] M = s.null
 line_combination s line (c ∷ cs) [] = s.null
 line_combination s line (c ∷ cs) (m ∷ M) = s.◌⊕◌ (s.◌⊕◌ (s.◌·◌ c.0 (line m).0) (s.◌·◌ c.1 (line m).1)) (line_combination s line cs M)
 
--- one of the two scalars is not zero
-abbrev pub NonZero : {K : Type 0} → Field K → K × K → Type 0
-NonZero f p = (p.0 ≢ f.zero) ⊎ (p.1 ≢ f.zero)
+-- M misses the vectors Q independently: they are independent together
+abbrev pub Misses : {K V : Type 0} {f : Field K} → Space f V → (ℕ → V × V) → List ℕ → List V → Type 0
+Misses s line M Q = IsIndependent s (vectors line M ++ Q)
 
--- m stands in M where p stands in cs
-abbrev pub At : {X : Type 0} → ℕ → X → List ℕ → List X → Type 0
-At m p [] cs = ⊥
-At m p (l ∷ M) [] = ⊥
-At m p (l ∷ M) (c ∷ cs) = ((m ≡ l) × (p ≡ c)) ⊎ At m p M cs
+-- M and the line e are independent together
+abbrev pub IsFree : {K V : Type 0} {f : Field K} → Space f V → (ℕ → V × V) → List ℕ → ℕ → Type 0
+IsFree s line M e = IsIndependent s (vectors line M ++ vectors line (e ∷ []))

@@ -1,12 +1,12 @@
 -- Bases of a list over an independent one, and the rank that they give it.
-use Rattle.std.proofs.Common.{◌≡◌, ℕ, ◌≤◌, List, ◌++◌, length, sym, arith}
+use Rattle.std.proofs.Common.{◌≡◌, ℕ, ◌≤◌, List, ◌++◌, length, sym, arith, [], subst, append-nil, ◌∷◌, refl}
 use Rattle.std.proofs.lemmas.List.{length-append}
-use Rattle.vector_spaces.proofs.Independence.{IsIndependent, independent_append, counting_bound}
+use Rattle.vector_spaces.proofs.Independence.{IsIndependent, independent_append, counting_bound, same_length_independent}
 use Rattle.vector_spaces.proofs.Members.{In}
 use Rattle.vector_spaces.proofs.Ranks.{rank, rank-length_basis, basis, basis_independent, basis_inside, basis_spans}
 use Rattle.vector_spaces.proofs.Space.{Field, Space}
 use Rattle.vector_spaces.proofs.Span.{InSpan, span_closure, span_member}
-use Rattle.vector_spaces.proofs.Within.{Within, placing, within_append, within_members, within_trans, within_right, through, left_in}
+use Rattle.vector_spaces.proofs.Within.{Within, placing, within_append, within_members, within_trans, within_right, through, left_in, within_left}
 
 -- some n of A are independent over us, and span A over us: A has rank n over us
 pub record HasRankOver {K V : Type 0} {f : Field K} (s : Space f V) (us A : List V) (n : ℕ) : Type 0 where
@@ -43,3 +43,23 @@ module _ {K V : Type 0} {f : Field K} (s : Space f V) where
       let a = p.length_chosen in
       let b = q.length_chosen in
       omega arith
+
+  -- the least rank, and the greatest
+  pub has_rank_zero : (us A : List V) → IsIndependent s us → Within s A us → HasRankOver s us A 0
+  has_rank_zero us A i h = record { chosen = []; chosen_in = λ v j. absurd j; independent = rw (append-nil us) i; spans = within_left s A us [] h; length_chosen = refl }
+
+  pub within_of_rank_zero : (us A : List V) → HasRankOver s us A 0 → Within s A us
+  within_of_rank_zero us A r = go r.chosen r.spans r.length_chosen
+    where
+      go : (C : List V) → Within s A (us ++ C) → length C ≡ 0 → Within s A us
+      go [] h e = subst (λ vs. Within s A vs) (append-nil us) h
+      go (v ∷ C) h e = absurd (omega arith)
+
+  pub has_full_rank : (us A : List V) → IsIndependent s (us ++ A) → HasRankOver s us A (length A)
+  has_full_rank us A i = record { chosen = A; chosen_in = λ v j. j; independent = i; spans = search placing; length_chosen = refl }
+
+  pub independent_of_full_rank : (us A : List V) → HasRankOver s us A (length A) → IsIndependent s (us ++ A)
+  independent_of_full_rank us A r =
+      let h : Within s r.chosen A = within_members s r.chosen A r.chosen_in in
+      let e = r.length_chosen in
+      same_length_independent s (us ++ r.chosen) (us ++ A) r.independent (search placing) (omega (arith, length-append {A = V}))

@@ -3,7 +3,7 @@ use Rattle.std.proofs.Common.{◌≡◌, ℕ, suc, zero, List, [], ◌∷◌, �
 use Rattle.std.proofs.lemmas.List.{length-replicate}
 use Rattle.vector_spaces.proofs.Closure.{IsIndependentOver}
 use Rattle.vector_spaces.proofs.Space.{Field, Space, linear, scale-null, plus-minus, null-plus}
-use Rattle.vector_spaces.proofs.Span.{InSpan, span_null, span_scale, undo}
+use Rattle.vector_spaces.proofs.Span.{InSpan, span_null, zero_of_outside}
 
 -- the first of vs times the first of cs, and so on, summed
 unfoldable pub combination : {K V : Type 0} {f : Field K} → Space f V → List K → List V → V
@@ -16,6 +16,11 @@ abbrev pub coefficient_sum : {K : Type 0} → Field K → List K → List K → 
 coefficient_sum f [] ds = []
 coefficient_sum f (c ∷ cs) [] = []
 coefficient_sum f (c ∷ cs) (d ∷ ds) = f.◌⊞◌ c d ∷ coefficient_sum f cs ds
+
+pub length-coefficient_sum : {K : Type 0} (f : Field K) (cs ds : List K) → length cs ≡ length ds → length (coefficient_sum f cs ds) ≡ length cs
+length-coefficient_sum f [] ds e = refl
+length-coefficient_sum f (c ∷ cs) [] e = absurd (omega arith)
+length-coefficient_sum f (c ∷ cs) (d ∷ ds) e = ap suc (length-coefficient_sum f cs ds (omega arith))
 
 -- only zeros combine vs into the span of us
 abbrev pub OnlyZerosCombine : {K V : Type 0} {f : Field K} → Space f V → List V → List V → Type 0
@@ -98,11 +103,7 @@ module _ {K V : Type 0} (f : Field K) (s : Space f V) where
   independent_of us (v ∷ vs) i (c ∷ cs) e h =
       let tail : cs ≡ replicate (length vs) o = independent_of (v ∷ us) vs i.1 cs (omega arith) (minus ⊠ c, c · v ⊕ combination s cs vs, rw (← combination-cons f s c cs v vs) h, simp combining) in
       let alone : InSpan s us (c · v) = subst (λ x. InSpan s us x) (rw (tail, combination-cons) (simp (combination-zeros, combining))) h in
-      ap₂ (λ x y. x ∷ y) (is_zero alone (f.same_scalar c o)) tail
-    where
-      is_zero : InSpan s us (c · v) → Dec (c ≡ o) → c ≡ o
-      is_zero k (yes z) = z
-      is_zero k (no n) = absurd (i.0 (subst (λ x. InSpan s us x) (undo f s c v n) (span_scale f s us (inv c) (c · v) k)))
+      ap₂ (λ x y. x ∷ y) (zero_of_outside f s us c v i.0 alone) tail
 
   pub indep_of : (us vs : List V) → OnlyZerosCombine s us vs → IsIndependentOver (InSpan s) us vs
   indep_of us [] h = tt

@@ -3,7 +3,7 @@ use Rattle.std.proofs.Common.{◌≡◌, ◌+◌, ◌≤◌, ◌⊎◌, inl, inr
 use Rattle.std.proofs.lemmas.List.{length-append}
 use Rattle.vector_spaces.proofs.Closure.{IsIndependentOver, steinitz}
 use Rattle.vector_spaces.proofs.Members.{In}
-use Rattle.vector_spaces.proofs.Ranks.{rank, rank_most, rank_le_length, rank-append, rank_of_independent, independent_of_rank, independent_weaker}
+use Rattle.vector_spaces.proofs.Ranks.{rank, rank_most, rank_le_length, rank-append, rank_of_independent, independent_of_rank, independent_weaker, independent_cons, outside_of_independent}
 use Rattle.vector_spaces.proofs.Space.{Field, Space}
 use Rattle.vector_spaces.proofs.Span.{InSpan, span_closure, span_more, decide_span}
 use Rattle.vector_spaces.proofs.Sublists.{IsSublist}
@@ -48,6 +48,13 @@ module _ {K V : Type 0} {f : Field K} (s : Space f V) where
 
   pub appended_is_outside : (us : List V) (v : V) → IsIndependent s (us ++ v ∷ []) → ¬ (InSpan s us v)
   appended_is_outside us v i = (append_independent us (v ∷ []) i).1.0
+
+  -- one vector more in front
+  pub cons_outside : (v : V) (vs : List V) → ¬ (InSpan s vs v) → IsIndependent s vs → IsIndependent s (v ∷ vs)
+  cons_outside v vs n i = independent_cons V (InSpan s) (span_closure f s) v vs n i
+
+  pub head_is_outside : (v : V) (vs : List V) → IsIndependent s (v ∷ vs) → ¬ (InSpan s vs v)
+  head_is_outside v vs i = outside_of_independent V (InSpan s) (span_closure f s) v vs i
 
   pub independent_left : (us vs : List V) → IsIndependent s (us ++ vs) → IsIndependent s us
   independent_left us vs i = (append_independent us vs i).0

@@ -1,5 +1,7 @@
 pub mod Members
 pub mod Sublists
+pub mod Middles
+pub mod Distinct
 pub mod Closure
 pub mod Ranks
 pub mod Space
@@ -9,6 +11,14 @@ pub mod Within
 pub mod Independence
 pub mod Bases
 pub mod Splits
+pub mod Meets
+pub mod Pivots
+pub mod Dependence
 pub mod Tuples
+pub mod Pairs
+pub mod Determinants
 pub mod Uniqueness
 pub mod LinearMaps
+pub mod Quotients
+pub mod CoordinateQuotients
+pub mod TupleQuotients

@@ -1,6 +1,7 @@
 -- The members of a list.
 use Rattle.std.proofs.Common.{◌≡◌, ℕ, zero, suc, ◌<◌, ◌⊎◌, inl, inr, List, [], ◌∷◌, ◌++◌, length, get_or, map, refl, sym, ap, subst, arith, All}
 use Rattle.std.specs.List.{flat_map, Contains}
+use Rattle.std.proofs.Math.Decide.{ℕ_discrete}
 use Rattle.std.proofs.lemmas.List.Elements.{All-nil, All-cons, All-head, All-tail}
 
 -- x is one of the list
@@ -72,3 +73,12 @@ pub In-get_or : {X : Type 0} (xs : List X) (i : ℕ) (d : X) → i < length xs �
 In-get_or [] i d h = absurd (omega arith)
 In-get_or (x ∷ xs) zero d h = inl refl
 In-get_or (x ∷ xs) (suc i) d h = inr (In-get_or xs i d (omega arith))
+
+pub decide_in : (n : ℕ) (ns : List ℕ) → Dec (In n ns)
+decide_in n [] = no (λ i. i)
+decide_in n (m ∷ ns) = go (ℕ_discrete n m) (decide_in n ns)
+  where
+    go : Dec (n ≡ m) → Dec (In n ns) → Dec (In n (m ∷ ns))
+    go (yes e) d = yes (inl e)
+    go (no k) (yes i) = yes (inr i)
+    go (no k) (no j) = no (λ i. elim i [ inl e ↦ k e | inr l ↦ j l ])

@@ -49,6 +49,20 @@ module _ {K V : Type 0} (f : Field K) (s : Space f V) where
   pub undo : (c : K) (w : V) → c ≢ o → inv c · (c · w) ≡ w
   undo c w n = sym (s.mul-scale (inv c) c w) ∙ ap (λ k. k · w) (f.mul_comm (inv c) c ∙ f.mul-inv c n) ∙ s.one-scale w
 
+  -- a multiple of a vector outside a span is in it by zero alone
+  pub zero_of_outside : (us : List V) (c : K) (v : V) → ¬ (InSpan s us v) → InSpan s us (c · v) → c ≡ o
+  zero_of_outside us c v n h = go (f.same_scalar c o)
+    where
+      go : Dec (c ≡ o) → c ≡ o
+      go (yes z) = z
+      go (no q) = absurd (n (subst (λ x. InSpan s us x) (undo c v q) (span_scale us (inv c) (c · v) h)))
+
+  -- and so are both scalars of two vectors outside, one after the other
+  pub zeros_of_outside : (us : List V) (u v : V) (a b : K) → ¬ (InSpan s us u) → ¬ (InSpan s (u ∷ us) v) → InSpan s us (a · u ⊕ b · v) → (a ≡ o) × (b ≡ o)
+  zeros_of_outside us u v a b n m h =
+      let z : b ≡ o = zero_of_outside (u ∷ us) b v m (minus ⊠ a, a · u ⊕ b · v, h, simp linear) in
+      (zero_of_outside us a u n (subst (λ t. InSpan s us t) (rw z (simp linear)) h), z)
+
   pub solve : (c : K) (v w y : V) → c ≢ o → v ≡ c · w ⊕ y → w ≡ inv c · v ⊕ minus · (inv c · y)
   solve c v w y n e = rw e (simp (undo c w n, linear))
 

@@ -20,6 +20,11 @@ pub sub_self : {X : Type 0} (vs : List X) → IsSublist vs vs
 sub_self [] = refl
 sub_self (v ∷ vs) = inr (vs, refl, sub_self vs)
 
+pub sub_member : {X : Type 0} (x : X) (xs : List X) → In x xs → IsSublist (x ∷ []) xs
+sub_member x [] i = absurd i
+sub_member x (y ∷ xs) (inl e) = inr ([], ap (λ t. t ∷ []) e, sub_nil xs)
+sub_member x (y ∷ xs) (inr i) = inl (sub_member x xs i)
+
 -- one left out
 pub sub_drop : {X : Type 0} (us : List X) (v : X) (vs : List X) → IsSublist (us ++ vs) (us ++ v ∷ vs)
 sub_drop [] v vs = inl (sub_self vs)

@@ -1,11 +1,11 @@
 -- The coefficients of a vector over an independent list are unique.
-use Rattle.std.proofs.Common.{◌≡◌, ℕ, zero, suc, List, [], ◌∷◌, length, map, replicate, refl, sym, ap, ap₂, ◌∙◌, arith}
+use Rattle.std.proofs.Common.{◌≡◌, ℕ, zero, suc, List, [], ◌∷◌, length, map, replicate, refl, sym, ap₂, ◌∙◌, arith}
 use Rattle.std.proofs.lemmas.List.{length-map}
-use Rattle.vector_spaces.proofs.Space.{Field, Space, plus-minus}
-use Rattle.vector_spaces.proofs.Tuples.{line}
-use Rattle.vector_spaces.proofs.Combination.{combination, coefficient_sum, combination-sum, combination-scale, independent_of}
+use Rattle.vector_spaces.proofs.Combination.{combination, coefficient_sum, combination-sum, combination-scale, independent_of, length-coefficient_sum}
 use Rattle.vector_spaces.proofs.Independence.{IsIndependent}
+use Rattle.vector_spaces.proofs.Space.{Field, Space, plus-minus}
 use Rattle.vector_spaces.proofs.Splits.{same_of_difference}
+use Rattle.vector_spaces.proofs.Tuples.{line}
 
 module _ {K V : Type 0} (f : Field K) (s : Space f V) where
   open f use {zero as o, minus, ◌⊠◌}
@@ -33,9 +33,4 @@ module _ {K V : Type 0} (f : Field K) (s : Space f V) where
       let l : length (negatives ds) ≡ length vs = length-map ds (λ d. minus ⊠ d) ∙ k in
       let difference : combination s (coefficient_sum f cs (negatives ds)) vs ≡ s.null =
       combination-sum f s cs (negatives ds) vs (h ∙ sym l) ∙ ap₂ s.◌⊕◌ e (combination-scale f s minus ds vs) ∙ plus-minus f s (combination s ds vs) in
-      same_of_zeros (length vs) cs ds h k (independent_of f s [] vs i (coefficient_sum f cs (negatives ds)) (length-sum cs (negatives ds) (h ∙ sym l) ∙ h) difference)
-    where
-      length-sum : (xs ys : List K) → length xs ≡ length ys → length (coefficient_sum f xs ys) ≡ length xs
-      length-sum [] ys q = refl
-      length-sum (x ∷ xs) [] q = absurd (omega arith)
-      length-sum (x ∷ xs) (y ∷ ys) q = ap suc (length-sum xs ys (omega arith))
+      same_of_zeros (length vs) cs ds h k (independent_of f s [] vs i (coefficient_sum f cs (negatives ds)) (length-coefficient_sum f cs (negatives ds) (h ∙ sym l) ∙ h) difference)

@@ -1,0 +1,4 @@
+pub mod Removal
+pub mod Pivots
+pub mod Projections
+pub mod ProjectionLaws

@@ -1,0 +1,34 @@
+-- The meeting of two spans. Each of ws is in the span of news, which are independent over vs, and of xs, which are in the span of vs.
+use Rattle.std.proofs.Common.{◌≡◌, ◌+◌, ◌≤◌, List, ◌++◌, length, sym, ap, ◌∙◌, subst, arith}
+use Rattle.std.proofs.lemmas.List.{length-append}
+use Rattle.vector_spaces.proofs.Independence.{IsIndependent, same_length_independent, independent_left}
+use Rattle.vector_spaces.proofs.Members.{In}
+use Rattle.vector_spaces.proofs.Space.{Field, Space, move}
+use Rattle.vector_spaces.proofs.Span.{InSpan, span_minus, span_plus, span_member}
+use Rattle.vector_spaces.proofs.Splits.{span_split, common_is_null}
+use Rattle.vector_spaces.proofs.Within.{Within, through, left_in, right_in}
+
+module _ {K V : Type 0} {f : Field K} (s : Space f V) where
+  infixl 65 ◌⊕◌
+  open s use {◌⊕◌}
+
+  -- xs span the meeting of the spans of vs and ws
+  pub meet_within : (vs news xs ws : List V) (x : V) → IsIndependent s (vs ++ news) → Within s xs vs → Within s ws (xs ++ news) → InSpan s vs x → InSpan s ws x → InSpan s xs x
+  meet_within vs news xs ws x i hx hw c k =
+      let r = span_split s xs news x (through s ws (xs ++ news) x hw k) in
+      let e : x ≡ r.1 ⊕ r.0 = r.4 ∙ s.plus_comm r.0 r.1 in
+      let low : InSpan s vs r.1 = subst (λ t. InSpan s vs t) (move f s x r.0 r.1 e) (span_minus f s vs x r.0 c (through s xs vs r.0 hx r.2)) in
+      let z : r.1 ≡ s.null = common_is_null s vs news r.1 i low r.3 in
+      subst (λ t. InSpan s xs t) (sym (r.4 ∙ ap (λ t. r.0 ⊕ t) z ∙ s.plus-null r.0)) r.2
+
+  -- w of ws is the sum of x of xs and n of the span of news
+  pub old_in : (news xs : List V) (w x n : V) → In x xs → InSpan s news n → w ≡ x ⊕ n → InSpan s (xs ++ news) w
+  old_in news xs w x n i h e = subst (λ t. InSpan s (xs ++ news) t) (sym e) (span_plus f s (xs ++ news) x n (left_in s xs news x (span_member f s xs x i)) (right_in s xs news n h))
+
+  -- so that x is in the span of ws, if the new ones are
+  pub meet_in : (news ws : List V) (w x n : V) → Within s news ws → In w ws → InSpan s news n → w ≡ x ⊕ n → InSpan s ws x
+  meet_in news ws w x n h i k e = subst (λ t. InSpan s ws t) (move f s w n x e) (span_minus f s ws w n (span_member f s ws w i) (through s news ws n h k))
+
+  -- and xs is independent where ws is
+  pub meet_independent : (news xs ws : List V) → IsIndependent s ws → Within s ws (xs ++ news) → length xs + length news ≤ length ws → IsIndependent s xs
+  meet_independent news xs ws i h e = independent_left s xs news (same_length_independent s ws (xs ++ news) i h (let k = length-append xs news in omega arith))
