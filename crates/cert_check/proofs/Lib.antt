@@ -1,0 +1,4 @@
+pub mod Counting
+pub mod Lengths
+pub mod Halves
+pub mod Judged

@@ -1,0 +1,16 @@
+use Rattle.std.proofs.Common.{ℕ, List, ap₂, ◌∙◌, arith}
+use Rattle.field_core.specs.Matrix.{Matrix}
+use Rattle.linear_algebra.specs.Ranks.{rank_over}
+use Rattle.parity_lines.specs.Problems.{vectors_at}
+use Rattle.cert_check.proofs.Halves.{halves_fit}
+use Rattle.cert_check.proofs.judging.halves.Goals as goal
+
+pub overflow_add-total : goal.overflow_add-total
+overflow_add-total g c =
+    let S = g.F.Field.scalars in
+    let p = c.args.problem.now in
+    let rows = c.args.basis.now.rows in
+    let rank = c.in_ok-total.ensures.rank ∙ ap₂ (λ (m : Matrix) (part : List ℕ). rank_over S p.dimension m.rows (vectors_at p part)) c.loop-i.invariant.same c.at.ensures in
+    let fits = halves_fit S g.met.F.Field.lawful p c.len-lines.ensures.problem rows c.requires.vectors c.args.parts.now c.loop-i.i c.in_ok-total.field-0 c.loop-i.total
+    c.len-i-end.ensures.parts c.requires.within c.requires.disjoint (omega arith) rank c.loop-i.invariant.summed in
+    omega arith

@@ -1,0 +1,94 @@
+//! The verdict.
+
+ghost use Rattle.std.specs.Prelude.{◌≡◌, ◌<◌, ◌↔◌, All, IfOk, length};
+ghost use Rattle.parity_lines.specs.LineSets.{IsLargest};
+ghost use Rattle.parity_lines.specs.Certificates.{IsGoodAnswer};
+ghost use Rattle.linear_algebra.specs.Vectors.{AreVectors};
+ghost use Rattle.cert_check.specs.Verdicts.{IsDisjoint, TellsFault, Tells, halves_over};
+
+use crate::Verdict;
+use crate::counts::{count_parts, first_with};
+use echelon::Echelon;
+use field_core::Field;
+use parity_lines::{Answer, Independence, Parts, Problem, added_rank, basis_of, is_independent};
+use std::alloc::{AllocError, Global};
+
+/// What is wrong with the parts: the least position that stands in none, or else the least that stands in two.
+fn parts_fault<F: Field>(
+    alloc: Global,
+    problem: &Problem<F>,
+    parts: &Parts,
+) -> Result<Option<Verdict>, AllocError>
+    requires { All (λ part. All (λ m. m < length problem.now.lines) part) parts.now }
+    ensures { IfOk result (TellsFault problem.now parts.now) }
+{
+    let counts = count_parts(alloc, problem.len(), parts)?;
+    if let Some(line) = first_with(&counts, 0) {
+        return Ok(Some(Verdict::PartsMissing(line)));
+    }
+    if let Some(line) = first_with(&counts, 2) {
+        return Ok(Some(Verdict::PartsTwice(line)));
+    }
+    Ok(None)
+}
+
+/// The sum of half the ranks that the parts add to the basis, each rounded down.
+fn halves<F: Field>(
+    basis: &mut Echelon<F>,
+    problem: &Problem<F>,
+    parts: &Parts,
+) -> Result<usize, AllocError>
+    requires width { basis.old.width ≡ problem.now.dimension }
+    requires vectors { AreVectors F.scalars problem.now.dimension basis.old.rows }
+    requires within { All (λ part. All (λ m. m < length problem.now.lines) part) parts.now }
+    requires disjoint { IsDisjoint problem.now parts.now }
+    ensures { IfOk result (λ h. h ≡ halves_over F.scalars problem.now basis.old.rows parts.now) }
+{
+    let _lines = problem.len();
+    let mut total = 0;
+    for i in 0..parts.len() {
+        total += added_rank(basis, problem, parts.at(i))? / 2;
+    }
+    Ok(total)
+}
+
+/// The verdict on an answer to a problem. `Yes` comes exactly where the answer is good, and its set is then
+/// largest; otherwise the first reason that applies is answered, in the order of [`Verdict`].
+pub fn verdict<F: Field>(
+    alloc: Global,
+    problem: &Problem<F>,
+    answer: &Answer<F>,
+) -> Result<Verdict, AllocError>
+    requires set { All (λ m. m < length problem.now.lines) answer.now.set }
+    requires parts { All (λ part. All (λ m. m < length problem.now.lines) part) answer.now.certificate.parts }
+    requires width { answer.now.certificate.kernel.width ≡ problem.now.dimension }
+    ensures tells { IfOk result (Tells F.scalars problem.now answer.now.set answer.now.certificate.kernel answer.now.certificate.parts) }
+    ensures yes { IfOk result (λ v. (v ≡ Verdict.Yes) ↔ IsGoodAnswer F.scalars problem.now answer.now.set answer.now.certificate.kernel answer.now.certificate.parts) }
+    ensures largest { IfOk result (λ v. v ≡ Verdict.Yes → IsLargest F.scalars problem.now answer.now.set) }
+{
+    let certificate = &answer.certificate;
+    let _lines = problem.len();
+    let _parts = certificate.parts.len();
+    if let Independence::Relation(_) = is_independent(alloc, problem, &answer.set)? {
+        return Ok(Verdict::Dependent);
+    }
+    let mut basis = basis_of(alloc, &certificate.kernel)?;
+    if basis.rank() < certificate.kernel.len() {
+        return Ok(Verdict::KernelDependent);
+    }
+    if let Some(fault) = parts_fault(alloc, problem, &certificate.parts)? {
+        return Ok(fault);
+    }
+    let halves = halves(&mut basis, problem, &certificate.parts)?;
+    let bound = certificate
+        .kernel
+        .len()
+        .checked_add(halves)
+        .ok_or(AllocError)?;
+    let size = answer.set.len();
+    if bound == size {
+        Ok(Verdict::Yes)
+    } else {
+        Ok(Verdict::BoundOff { size, bound })
+    }
+}
