@@ -1,12 +1,12 @@
 -- What forms give depends on the lines that they take alone: laws of what forms are made of.
-use Rattle.std.proofs.Common.{◌≡◌, ℕ, ◌+◌, List, [], ◌∷◌, ◌++◌, None, Some, Option, Result, Ok, Err, refl, sym, ap, ◌∙◌, subst, inl, inr, append_assoc}
+use Rattle.std.proofs.Common.{◌≡◌, ℕ, zero, suc, ◌+◌, List, [], ◌∷◌, ◌++◌, None, Some, Option, Result, Ok, Err, refl, sym, ap, ◌∙◌, subst, inl, inr, append_assoc}
 use Rattle.line_lexer.specs.Lines.{Line}
 use Rattle.line_lexer.specs.declared.fault.TextFault.TheVariants.{Byte, Count, Missing}
 use Rattle.line_lexer.specs.declared.refusal.TextRefusal.{TextRefusal}
 use Rattle.line_lexer.specs.declared.refusal.TextRefusal.TheVariants.{Bad}
 use Rattle.text_forms.specs.Reading.{◌>>=◌, give}
-use Rattle.text_forms.specs.Places.{Place, ended}
-use Rattle.text_forms.specs.Forms.{Form, due, whole, of_words, line, extra, finished}
+use Rattle.text_forms.specs.Places.{Place, ended, times}
+use Rattle.text_forms.specs.Forms.{Form, due, whole, of_words, line, extra, finished, whole_text}
 use Rattle.text_forms.specs.Causality.{FaultsOnLine, IsOnLine, GivesCausally, RefusesCausally}
 use Rattle.text_forms.proofs.Taking.{bind_ok, bind_err, same_given}
 
@@ -120,3 +120,25 @@ RefusesCausally-finished last [] e h = absurd (cc (h))
 RefusesCausally-finished last (l ∷ more) e h =
     let same : Bad l.number (extra l.words) ≡ e = cc (h) in
     inr (record { before = []; at = l; rest = more; text_is = refl; on_line = subst (λ (d : TextRefusal). IsOnLine d l.number) same refl; refuses = λ last' rest'. ap Err same })
+
+pub GivesCausally-times : {A : Type 0} (n : ℕ) (form : Form A) → GivesCausally form → GivesCausally (times n form)
+unfolding times
+GivesCausally-times zero form gives = GivesCausally-give []
+GivesCausally-times (suc n) form gives = GivesCausally-bind form _ gives (λ x. GivesCausally-bind (times n form) _ (GivesCausally-times n form gives) (λ xs. GivesCausally-give (x ∷ xs)))
+
+pub RefusesCausally-times : {A : Type 0} (n : ℕ) (form : Form A) → GivesCausally form → RefusesCausally form → RefusesCausally (times n form)
+unfolding times
+RefusesCausally-times zero form gives refuses = RefusesCausally-give []
+RefusesCausally-times (suc n) form gives refuses =
+    RefusesCausally-bind form _ gives refuses (λ x. RefusesCausally-bind (times n form) _ (GivesCausally-times n form gives) (RefusesCausally-times n form gives refuses) (λ xs. RefusesCausally-give (x ∷ xs)))
+
+end_refused : {A : Type 0} (x : A) → RefusesCausally (finished >>= λ _. give x)
+unfolding finished
+end_refused x last [] e h = absurd (cc (h))
+end_refused x last (l ∷ more) e h =
+    let same : Bad l.number (extra l.words) ≡ e = cc (h) in
+    inr (record { before = []; at = l; rest = more; text_is = refl; on_line = subst (λ (d : TextRefusal). IsOnLine d l.number) same refl; refuses = λ last' rest'. ap Err same })
+
+-- a form up to the end of the text
+pub RefusesCausally-whole_text : {A : Type 0} (form : Form A) → GivesCausally form → RefusesCausally form → RefusesCausally (whole_text form)
+RefusesCausally-whole_text form gives refuses = RefusesCausally-bind form _ gives refuses end_refused

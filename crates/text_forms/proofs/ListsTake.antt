@@ -1,10 +1,10 @@
 -- The same in plain words: so many increasing positions, one or more of them, and one place many times.
-use Rattle.std.proofs.Common.{◌≡◌, ℕ, zero, suc, ◌+◌, ◌<◌, ◌≤◌, ◌↔◌, List, [], ◌∷◌, ◌++◌, length, map, max, get_or, refl, sym, ap, ◌∙◌, subst, arith}
+use Rattle.std.proofs.Common.{◌≡◌, ℕ, zero, suc, ◌+◌, ◌-◌, ◌<◌, ◌≤◌, ◌↔◌, List, [], ◌∷◌, ◌++◌, length, map, max, get_or, refl, sym, ap, ◌∙◌, subst, arith}
 use Rattle.std.specs.List.{AllByRecursion}
 use Rattle.std.specs.List.Sorted.{IsStrictlyIncreasing}
 use Rattle.std.proofs.lemmas.List.{append-nil}
-use Rattle.text_forms.specs.Reading.{◌>>=◌, give}
-use Rattle.text_forms.specs.Places.{Place, entry, positions, some_positions, times}
+use Rattle.text_forms.specs.Reading.{Reads, ◌>>=◌, give}
+use Rattle.text_forms.specs.Places.{entry, positions, some_positions, times}
 use Rattle.text_forms.specs.Spelling.{IsOneNumeral, AreNumerals, SpellsPositions, Takes, Fills}
 use Rattle.text_forms.proofs.Taking.{Takes-give, Takes-bind, Takes-same}
 use Rattle.text_forms.proofs.PlacesTake.{Takes-entry}
@@ -28,6 +28,14 @@ set_from from lines [] first h below = tt
 set_from from lines (p ∷ []) first h below = (first (omega arith), below.0, tt)
 set_from from lines (p ∷ q ∷ ps) first h below =
     (first (omega arith), below.0, set_from (p + 1) lines (q ∷ ps) (λ some. let next = h 0 (omega arith) in omega arith) (increases_after p (q ∷ ps) h) below.1)
+
+set_is_short : (from lines : ℕ) (ps : List ℕ) → IsSetFrom from lines ps → length ps ≤ lines - from
+set_is_short from lines [] h = omega arith
+set_is_short from lines (p ∷ ps) h = omega (arith, h.0, h.1, set_is_short (p + 1) lines ps h.2)
+
+-- increasing positions are no more than there are positions
+pub positions_are_few : (lines : ℕ) (ps : List ℕ) → IsStrictlyIncreasing ps → AllByRecursion (λ p. p < lines) ps → length ps ≤ lines
+positions_are_few lines ps increasing below = omega (arith, set_is_short 0 lines ps (set_from 0 lines ps (λ some. omega arith) increasing below))
 
 spells : (lines : ℕ) (ps : List ℕ) (ws : List (List ℕ)) → SpellsFrom 0 lines ps ws ↔ SpellsPositions lines ps ws
 spells lines ps ws = (
@@ -63,41 +71,41 @@ Fills-some_positions lines line ws ps = (
       (Takes-positions (max 1 (length ws)) lines line ws [] ps).1 (ws, sym (append-nil ws), (omega (arith, h.0), h.1)),
 )
 
--- a value for each time, and the words of each in order
-abbrev pub SpellsTimes : {A : Type 0} → (A → List (List ℕ) → Type 0) → List A → List (List ℕ) → Type 0
-SpellsTimes S [] ws = ws ≡ []
-SpellsTimes S (x ∷ xs) ws = (front : List (List ℕ)) × (back : List (List ℕ)) × (ws ≡ front ++ back) × S x front × SpellsTimes S xs back
+-- a value for each time, and what spells each in order
+abbrev pub SpellsTimes : {T A : Type 0} → (A → List T → Type 0) → List A → List T → Type 0
+SpellsTimes S [] left = left ≡ []
+SpellsTimes {T = T} S (x ∷ xs) left = (front : List T) × (back : List T) × (left ≡ front ++ back) × S x front × SpellsTimes S xs back
 
-times_zero : {A : Type 0} (S : A → List (List ℕ) → Type 0) (xs : List A) (ws : List (List ℕ)) → ((xs ≡ []) × (ws ≡ [])) ↔ ((length xs ≡ 0) × SpellsTimes S xs ws)
-times_zero S [] ws = (λ h. (refl, h.1), λ h. (refl, h.1))
-times_zero S (x ∷ xs) ws = (λ h. absurd (cc (h.0)), λ h. absurd (omega (arith, h.0)))
+times_zero : {T A : Type 0} (S : A → List T → Type 0) (xs : List A) (left : List T) → ((xs ≡ []) × (left ≡ [])) ↔ ((length xs ≡ 0) × SpellsTimes S xs left)
+times_zero S [] left = (λ h. (refl, h.1), λ h. (refl, h.1))
+times_zero S (x ∷ xs) left = (λ h. absurd (cc (h.0)), λ h. absurd (omega (arith, h.0)))
 
-abbrev TimesParts : {A : Type 0} → (A → List (List ℕ) → Type 0) → ℕ → List A → List (List ℕ) → Type 0
-TimesParts {A = A} S n xs whole =
-    (x : A) × (front : List (List ℕ)) × (back : List (List ℕ)) × (whole ≡ front ++ back) × S x front
-    × ((ys : List A) × (f : List (List ℕ)) × (b : List (List ℕ)) × (back ≡ f ++ b) × ((length ys ≡ n) × SpellsTimes S ys f) × ((xs ≡ x ∷ ys) × (b ≡ [])))
+abbrev TimesParts : {T A : Type 0} → (A → List T → Type 0) → ℕ → List A → List T → Type 0
+TimesParts {T = T} {A = A} S n xs whole =
+    (x : A) × (front : List T) × (back : List T) × (whole ≡ front ++ back) × S x front
+    × ((ys : List A) × (f : List T) × (b : List T) × (back ≡ f ++ b) × ((length ys ≡ n) × SpellsTimes S ys f) × ((xs ≡ x ∷ ys) × (b ≡ [])))
 
-times_forth : {A : Type 0} (S : A → List (List ℕ) → Type 0) (n : ℕ) (xs : List A) (whole : List (List ℕ)) → TimesParts S n xs whole → (length xs ≡ suc n) × SpellsTimes S xs whole
-times_forth {A = A} S n xs whole h =
+times_forth : {T A : Type 0} (S : A → List T → Type 0) (n : ℕ) (xs : List A) (whole : List T) → TimesParts S n xs whole → (length xs ≡ suc n) × SpellsTimes S xs whole
+times_forth {T = T} {A = A} S n xs whole h =
     let last = h.5 in
-    let back : h.2 ≡ last.1 = last.3 ∙ ap (λ (t : List (List ℕ)). last.1 ++ t) last.5.1 ∙ append-nil last.1 in
-    let cons : SpellsTimes S (h.0 ∷ last.0) whole = (h.1, h.2, h.3, h.4, subst (λ (t : List (List ℕ)). SpellsTimes S last.0 t) (sym back) last.4.1) in
+    let back : h.2 ≡ last.1 = last.3 ∙ ap (λ (t : List T). last.1 ++ t) last.5.1 ∙ append-nil last.1 in
+    let cons : SpellsTimes S (h.0 ∷ last.0) whole = (h.1, h.2, h.3, h.4, subst (λ (t : List T). SpellsTimes S last.0 t) (sym back) last.4.1) in
     (ap length last.5.0 ∙ ap suc last.4.0, subst (λ (t : List A). SpellsTimes S t whole) (sym last.5.0) cons)
 
-times_back : {A : Type 0} (S : A → List (List ℕ) → Type 0) (n : ℕ) (xs : List A) (whole : List (List ℕ)) → length xs ≡ suc n → SpellsTimes S xs whole → TimesParts S n xs whole
+times_back : {T A : Type 0} (S : A → List T → Type 0) (n : ℕ) (xs : List A) (whole : List T) → length xs ≡ suc n → SpellsTimes S xs whole → TimesParts S n xs whole
 times_back S n [] whole e h = absurd (omega arith)
 times_back S n (x ∷ xs) whole e h = (x, h.0, h.1, h.2, h.3, (xs, h.1, [], sym (append-nil h.1), (cc (e), h.4), (refl, refl)))
 
-pub Takes-times : {A : Type 0} (S : A → List (List ℕ) → Type 0) (n : ℕ) (place : Place A) → Takes S place → Takes (λ xs ws. (length xs ≡ n) × SpellsTimes S xs ws) (times n place)
+pub Takes-times : {T A : Type 0} (S : A → List T → Type 0) (n : ℕ) (reader : Reads T A) → Takes S reader → Takes (λ xs left. (length xs ≡ n) × SpellsTimes S xs left) (times n reader)
 unfolding times
-Takes-times S zero place takes = Takes-same (λ xs ws. (xs ≡ []) × (ws ≡ [])) _ (give []) (times_zero S) (Takes-give [])
-Takes-times S (suc n) place takes =
-    Takes-same (TimesParts S n) _ (times (suc n) place) (λ xs ws. (times_forth S n xs ws, λ h. times_back S n xs ws h.0 h.1))
+Takes-times S zero reader takes = Takes-same (λ xs left. (xs ≡ []) × (left ≡ [])) _ (give []) (times_zero S) (Takes-give [])
+Takes-times {T = T} {A = A} S (suc n) reader takes =
+    Takes-same (TimesParts S n) _ (times (suc n) reader) (λ xs left. (times_forth S n xs left, λ h. times_back S n xs left h.0 h.1))
     (Takes-bind S
-    (λ x xs back. (ys : List _) × (f : List (List ℕ)) × (b : List (List ℕ)) × (back ≡ f ++ b) × ((length ys ≡ n) × SpellsTimes S ys f) × ((xs ≡ x ∷ ys) × (b ≡ [])))
-    place (λ x. times n place >>= λ ys. give (x ∷ ys)) takes
-    (λ x. Takes-bind (λ ys f. (length ys ≡ n) × SpellsTimes S ys f) (λ ys xs b. (xs ≡ x ∷ ys) × (b ≡ [])) (times n place) (λ ys. give (x ∷ ys))
-    (Takes-times S n place takes) (λ ys. Takes-give (x ∷ ys))))
+    (λ x xs back. (ys : List A) × (f : List T) × (b : List T) × (back ≡ f ++ b) × ((length ys ≡ n) × SpellsTimes S ys f) × ((xs ≡ x ∷ ys) × (b ≡ [])))
+    reader (λ x. times n reader >>= λ ys. give (x ∷ ys)) takes
+    (λ x. Takes-bind (λ ys f. (length ys ≡ n) × SpellsTimes S ys f) (λ ys xs b. (xs ≡ x ∷ ys) × (b ≡ [])) (times n reader) (λ ys. give (x ∷ ys))
+    (Takes-times S n reader takes) (λ ys. Takes-give (x ∷ ys))))
 
 entries_are : (order : ℕ) (xs : List ℕ) (ws : List (List ℕ)) → SpellsTimes (λ n v. IsOneNumeral n v × (n < order)) xs ws → AreNumerals xs ws × AllByRecursion (λ n. n < order) xs
 entries_are order [] ws h = rw h (tt, tt)

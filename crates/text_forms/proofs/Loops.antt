@@ -4,7 +4,7 @@ use Rattle.std.proofs.lemmas.List.{append-nil}
 use Rattle.line_lexer.specs.declared.refusal.TextRefusal.{TextRefusal}
 use Rattle.line_lexer.specs.declared.refusal.TextRefusal.TheVariants.{Bad, Limit, OutOfMemory}
 use Rattle.text_forms.specs.Reading.{Reads, ◌>>=◌, go_on, give}
-use Rattle.text_forms.specs.Places.{Place, position, position_or_end, positions_above, some_positions, times}
+use Rattle.text_forms.specs.Places.{position, position_or_end, positions_above, some_positions, times}
 use Rattle.text_forms.specs.Gives.{Fails}
 use Rattle.text_forms.proofs.Taking.{bind_ok, given, same_given}
 use Rattle.text_forms.proofs.PlacesTake.{Takes-position}
@@ -29,29 +29,30 @@ with_fault next front at OutOfMemory read total so_far h = tt
 with_fault next front at (Bad line kind) read total so_far h = sym so_far ∙ ap (λ r. with_front front (go_on next at r)) h
 with_fault next front at (Limit what found) read total so_far h = sym so_far ∙ ap (λ r. with_front front (go_on next at r)) h
 
--- ---- the same place so many times
+-- ---- the same reader so many times
 
-pub times_goes_on : {A : Type 0} (place : Place A) (front : List A) (x : A) (count i line : ℕ) (words after : List (List ℕ)) (total : Result (List A × List (List ℕ)) TextRefusal) → i < count
-    → place line words ≡ Ok (x, after) → with_front front (times (count - i) place line words) ≡ total → with_front (front ++ x ∷ []) (times (count - (i + 1)) place line after) ≡ total
+pub times_goes_on : {T A : Type 0} (reader : Reads T A) (front longer : List A) (x : A) (count i at now : ℕ) (left after : List T) (total : Result (List A × List T) TextRefusal) → i < count
+    → now ≡ at → longer ≡ front ++ x ∷ [] → reader now left ≡ Ok (x, after) → with_front front (times (count - i) reader at left) ≡ total → with_front longer (times (count - (i + 1)) reader at after) ≡ total
 unfolding times
-times_goes_on place front x count i line words after total lt h so_far =
+times_goes_on reader front longer x count i at now left after total lt same pushed h so_far =
     let more : count - i ≡ suc (count - (i + 1)) = omega arith in
-    let one : with_front front (times (count - i) place line words) ≡ with_front (front ++ x ∷ []) (times (count - (i + 1)) place line after) = rw (more, h) (with_one front x line (times (count - (i + 1)) place line after)) in
-    sym one ∙ so_far
+    let read = rw same at h in
+    let one : with_front front (times (count - i) reader at left) ≡ with_front (front ++ x ∷ []) (times (count - (i + 1)) reader at after) = rw (more, read) (with_one front x at (times (count - (i + 1)) reader at after)) in
+    rw pushed (sym one ∙ so_far)
 
-pub times_stops : {A : Type 0} (place : Place A) (front : List A) (e : TextRefusal) (count i line : ℕ) (words : List (List ℕ)) (total : Result (List A × List (List ℕ)) TextRefusal) → i < count
-    → Fails e (place line words) → with_front front (times (count - i) place line words) ≡ total → Fails e total
+pub times_stops : {T A : Type 0} (reader : Reads T A) (front : List A) (e : TextRefusal) (count i at now : ℕ) (left : List T) (total : Result (List A × List T) TextRefusal) → i < count
+    → now ≡ at → Fails e (reader now left) → with_front front (times (count - i) reader at left) ≡ total → Fails e total
 unfolding times
-times_stops place front e count i line words total lt h so_far =
+times_stops reader front e count i at now left total lt same h so_far =
     let more : count - i ≡ suc (count - (i + 1)) = omega arith in
-    with_fault (λ x. times (count - (i + 1)) place >>= λ xs. give (x ∷ xs)) front line e (place line words) total (rw more at so_far) h
+    with_fault (λ x. times (count - (i + 1)) reader >>= λ xs. give (x ∷ xs)) front at e (reader at left) total (rw more at so_far) (rw same at h)
 
-pub times_is_done : {A : Type 0} (place : Place A) (front : List A) (count i line : ℕ) (words : List (List ℕ)) (total : Result (List A × List (List ℕ)) TextRefusal) → count ≤ i
-    → with_front front (times (count - i) place line words) ≡ total → total ≡ Ok (front, words)
+pub times_is_done : {T A : Type 0} (reader : Reads T A) (front : List A) (count i at : ℕ) (left : List T) (total : Result (List A × List T) TextRefusal) → count ≤ i
+    → with_front front (times (count - i) reader at left) ≡ total → total ≡ Ok (front, left)
 unfolding times
-times_is_done {A = A} place front count i line words total le so_far =
+times_is_done {T = T} {A = A} reader front count i at left total le so_far =
     let none : count - i ≡ 0 = omega arith in
-    let done : with_front front (times (count - i) place line words) ≡ Ok (front, words) = rw none (ap (λ (xs : List A). Ok (xs, words)) (append-nil front)) in
+    let done : with_front front (times (count - i) reader at left) ≡ Ok (front, left) = rw none (ap (λ (xs : List A). Ok (xs, left)) (append-nil front)) in
     sym so_far ∙ done
 
 -- ---- increasing positions, a given number of them

@@ -84,6 +84,21 @@ Takes-same S R reader same takes at left rest x = (
   λ h. (takes at left rest x).1 (h.0, h.1, (same x h.0).1 h.2),
 )
 
+-- the same in other words
+pub Takes-as : {T A : Type 0} {S R : A → List T → Type 0} (reader : Reads T A) → Takes S reader → ((x : A) (front : List T) → S x front ↔ R x front) → Takes R reader
+Takes-as {S = S} {R = R} reader takes same = Takes-same S R reader same takes
+
+-- a value, and what is made of it
+pub Takes-made : {T A B : Type 0} (S : A → List T → Type 0) (made : A → B) (first : Reads T A) → Takes S first → Takes (λ y front. (x : A) × S x front × (y ≡ made x)) (first >>= λ x. give (made x))
+Takes-made {T = T} {A = A} {B = B} S made first takes =
+    Takes-as (first >>= λ x. give (made x)) (Takes-bind S (λ x y back. (y ≡ made x) × (back ≡ [])) first (λ x. give (made x)) takes (λ x. Takes-give (made x)))
+    (λ y whole. (
+      λ h.
+          let all : whole ≡ h.1 = h.3 ∙ ap (λ (t : List T). h.1 ++ t) h.5.1 ∙ append-nil h.1 in
+          (h.0, subst (λ (t : List T). S h.0 t) (sym all) h.4, h.5.0),
+      λ h. (h.0, whole, [], sym (append-nil whole), h.1, (h.2, refl)),
+    ))
+
 pub Takes-if : {T A : Type 0} (S R : A → List T → Type 0) (b : Bool) (one other : Reads T A) → Takes S one → Takes R other
     → Takes (λ x front. MatchBool b (S x front) (R x front)) (cond b one other)
 Takes-if S R true one other t o = t

@@ -1,0 +1,13 @@
+pub mod Increasing
+pub mod Pieces
+pub mod TextPieces
+pub mod Faults
+pub mod CausalForms
+pub mod Meaning
+pub mod PlacesMean
+pub mod TextsMean
+pub mod Limits
+pub mod WrittenWords
+pub mod WrittenLines
+pub mod WrittenTexts
+pub mod RoundTrip

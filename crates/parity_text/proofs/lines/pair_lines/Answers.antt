@@ -1,0 +1,25 @@
+use Rattle.std.proofs.Common.{rules, arith, ◌≡◌, ◌++◌, ◌∷◌, [], map, length, ap}
+use Rattle.line_lexer.specs.Lines.{lines}
+use Rattle.text_forms.specs.Forms.{line}
+use Rattle.text_forms.proofs.Loops.{times_goes_on, times_stops, times_is_done}
+use Rattle.parity_text.specs.Texts.{pair}
+use Rattle.parity_text.proofs.lines.pair_lines.Goals as goal
+
+pub returns-in-Err-clause-gives : goal.returns-in-Err-clause-gives
+returns-in-Err-clause-gives g c =
+    let same = ap (λ bytes. length (lines bytes)) c.loop-i.invariant.bytes in
+    times_stops (line (pair g.F.Field.scalars.order c.args.dimension)) _ c.in-Err.refusal c.args.count c.loop-i.i _ _ _ _ c.loop-i-test.true same c.in-Err.ensures.gives c.loop-i.invariant.rest
+
+pub loop-i-preserved : goal.loop-i-preserved
+loop-i-preserved g c =
+    let f = g.F.Field.number in
+    let same = ap (λ bytes. length (lines bytes)) c.loop-i.invariant.bytes in
+    let pushed : c.push.new.self.lines ≡ c.loop-i.problem.lines ++ (map f c.in-Ok.pair.first.items, map f c.in-Ok.pair.second.items) ∷ [] = search rules in
+    record {
+      bytes = search rules;
+      dimension = search rules;
+      rest = times_goes_on (line (pair g.F.Field.scalars.order c.args.dimension)) _ _ _ c.args.count c.loop-i.i _ _ _ _ _ c.loop-i-test.true same pushed c.in-Ok.ensures.gives c.loop-i.invariant.rest;
+    }
+
+pub returns-clause-gives : goal.returns-clause-gives
+returns-clause-gives g c = times_is_done (line (pair g.F.Field.scalars.order c.args.dimension)) _ c.args.count c.loop-i.i _ _ _ (omega arith) c.loop-i.invariant.rest

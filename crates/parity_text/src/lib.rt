@@ -1,0 +1,22 @@
+//! The texts of problems, answers and choices: what they are, readers that give the value or the first
+//! fault, writers of the one spelling, and the laws that tie them.
+#![tactic(auto)]
+
+mod head;
+mod laws;
+mod lines;
+mod positions;
+mod reading;
+#[cfg(test)]
+mod tests;
+mod vectors;
+mod writers;
+mod writing;
+
+pub use head::read_head;
+pub use laws::{
+    texts_are_causal, texts_give_what_is_spelled, values_are_within_limits, written_texts_are_read,
+};
+pub use reading::{read_answer, read_problem, read_set};
+pub use text_forms::read_end;
+pub use writers::{write_answer, write_problem, write_set};
