@@ -1,0 +1,5 @@
+pub mod StatusLines
+pub mod Commands
+pub mod Replies
+pub mod Outcome
+pub mod Shown

@@ -1,0 +1,54 @@
+//! The program: from the words and the bytes in to the status and the bytes out.
+//!
+//! [`run`] does all that the program does, and its contract states the whole promise over the bytes that the
+//! source has left and the sink has written: `Outcome` in `specs/Outcome.antt` says what each status means,
+//! `specs/Replies.antt` what an input says and what the reply to it is, `specs/StatusLines.antt` the codes and
+//! lines. `main` only makes the real source and sink. The reply of `check` is proved in `proofs/check` and
+//! `proofs/AnswerFiles.antt`, the outcome of a run in `proofs/running` and `proofs/Outcomes.antt`.
+#![tactic(auto)]
+
+mod check;
+mod command;
+mod reply;
+mod running;
+mod status;
+mod status_line;
+#[cfg(test)]
+mod tests;
+
+pub use command::Command;
+pub use running::run;
+pub use status::Status;
+pub use status_line::StatusLine;
+use std::alloc::Global;
+use std::env::Env;
+use std::io::{ErrorKind, Write};
+use std::process::ExitCode;
+use std::{env, io};
+use text_io::{StdSink, StdSource};
+
+/// The words after the program's name, or the status where they can't be had: want of memory, or words that
+/// the system refuses.
+fn words_of<R: Env + AllocGlobal>(rt: &R) -> Result<Vec<String>, Status> {
+    match env::args(rt) {
+        Ok(args) => match args.skip(1).collect(rt.alloc()) {
+            Ok(words) => Ok(words),
+            Err(_) => Err(Status::OutOfMemory),
+        },
+        Err(error) if error.kind() == ErrorKind::OutOfMemory => Err(Status::OutOfMemory),
+        Err(_) => Err(Status::Usage),
+    }
+}
+
+fn main(rt: HostRuntime) -> ExitCode {
+    let status = match words_of(&rt) {
+        Ok(words) => {
+            let mut input = StdSource::new(rt.reader());
+            let mut output = StdSink::new(io::writer(&rt));
+            run(rt.alloc(), &words, &mut input, &mut output)
+        }
+        Err(status) => status,
+    };
+    let _unseen = rt.stderr().write_all(status.line().as_bytes());
+    ExitCode::from(status.code())
+}
