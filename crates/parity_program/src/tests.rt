@@ -122,13 +122,25 @@ fn whole_inputs_are_checked(rt: HostRuntime) -> Result<(), Fail> {
             }
         );
     }
-    let returns =
-        "# a comment\r\nparity 1\r\nfield\t2\r\ndimension 1\r\nlines 0\r\nanswer 1\r\nsize 0\r\nset\r\nkernel 0\r\nparts 0\r\nend\r\n";
-    let (status, written) = checked(rt.alloc(), returns.as_bytes())?;
-    assert_eq!(rt;
-        (status, written.as_slice()),
-        (Status::Done, b"yes\n".as_slice())
-    );
+    Ok(())
+}
+
+#[test]
+fn line_ends_and_gaps_are_free(rt: HostRuntime) -> Result<(), Fail> {
+    for (before, space) in [("", " "), ("# a comment\r\n", "\t")] {
+        let mut text = Vec::new(rt.alloc());
+        text.extend_from_slice(before.as_bytes())?;
+        for line in TWO_LINES.split(" / ") {
+            for word in line.split(' ') {
+                text.extend_from_slice(word.as_bytes())?;
+                text.extend_from_slice(space.as_bytes())?;
+            }
+            text.extend_from_slice(b"\r\n")?;
+        }
+        let (status, written) = checked(rt.alloc(), &text)?;
+        assert_eq!(rt; status, Status::Done);
+        assert_eq!(rt; written.as_slice(), b"yes\n".as_slice());
+    }
     Ok(())
 }
 
@@ -244,9 +256,11 @@ fn cuts_are_no_answers(rt: HostRuntime) -> Result<(), Fail> {
             assert_eq!(rt; written.as_slice(), b"yes\n".as_slice());
         }
     }
-    let cut = text.get(..130).expect(&rt, "130 bytes");
-    let (status, _written) = checked(rt.alloc(), cut)?;
-    assert_eq!(rt; status, bad(13, TextFault::Missing));
+    for length in [130, 132] {
+        let cut = text.get(..length).expect(&rt, "a cut");
+        let (status, _written) = checked(rt.alloc(), cut)?;
+        assert_eq!(rt; status, bad(13, TextFault::Missing));
+    }
     Ok(())
 }
 
