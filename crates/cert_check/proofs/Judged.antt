@@ -13,10 +13,10 @@ use Rattle.linear_algebra.proofs.IndependenceLaws.{independent_no_longer, same_l
 use Rattle.parity_lines.specs.Problems.{ParityProblem, IsProblem, vectors_at}
 use Rattle.parity_lines.specs.PartLists.{ArePartLists}
 use Rattle.parity_lines.specs.LineSets.{IsLargest}
-use Rattle.parity_lines.specs.Grown.{IsBasisOf}
+use Rattle.echelon.specs.Grown.{IsBasisOf}
 use Rattle.parity_lines.specs.Certificates.{bound, IsGoodAnswer}
 use Rattle.parity_lines.proofs.Border.{vectors_at-vectors}
-use Rattle.parity_lines.proofs.Growth.{over_basis}
+use Rattle.echelon.proofs.Growing.{over_basis}
 use Rattle.parity_lines.proofs.EasyHalf.{good_answer_largest}
 use Rattle.cert_check.specs.Verdicts.{AreIndependent, IsCovered, IsDisjoint, TellsFault, Tells, halves_over}
 use Rattle.cert_check.specs.declared.answers.Verdict.{Verdict}

@@ -2,3 +2,4 @@ pub mod Counting
 pub mod Lengths
 pub mod Halves
 pub mod Judged
+pub mod OneVerdict

@@ -1,6 +1,6 @@
 //! The verdict.
 
-ghost use Rattle.std.specs.Prelude.{◌≡◌, ◌<◌, ◌↔◌, All, IfOk, length};
+ghost use Rattle.std.specs.Prelude.{◌≡◌, ◌<◌, ◌≤◌, ◌↔◌, All, IfOk, length};
 ghost use Rattle.parity_lines.specs.LineSets.{IsLargest};
 ghost use Rattle.parity_lines.specs.Certificates.{IsGoodAnswer};
 ghost use Rattle.linear_algebra.specs.Vectors.{AreVectors};
@@ -8,9 +8,9 @@ ghost use Rattle.cert_check.specs.Verdicts.{IsDisjoint, TellsFault, Tells, halve
 
 use crate::Verdict;
 use crate::counts::{count_parts, first_with};
-use echelon::Echelon;
+use echelon::{Echelon, basis_of};
 use field_core::Field;
-use parity_lines::{Answer, Independence, Parts, Problem, added_rank, basis_of, is_independent};
+use parity_lines::{Answer, Independence, Parts, Problem, added_rank, is_independent};
 use std::alloc::{AllocError, Global};
 
 /// What is wrong with the parts: the least position that stands in none, or else the least that stands in two.
@@ -42,7 +42,8 @@ fn halves<F: Field>(
     requires vectors { AreVectors F.scalars problem.now.dimension basis.old.rows }
     requires within { All (λ part. All (λ m. m < length problem.now.lines) part) parts.now }
     requires disjoint { IsDisjoint problem.now parts.now }
-    ensures { IfOk result (λ h. h ≡ halves_over F.scalars problem.now basis.old.rows parts.now) }
+    ensures sum { IfOk result (λ h. h ≡ halves_over F.scalars problem.now basis.old.rows parts.now) }
+    ensures few { IfOk result (λ h. h ≤ length problem.now.lines) }
 {
     let _lines = problem.len();
     let mut total = 0;
@@ -80,11 +81,7 @@ pub fn verdict<F: Field>(
         return Ok(fault);
     }
     let halves = halves(&mut basis, problem, &certificate.parts)?;
-    let bound = certificate
-        .kernel
-        .len()
-        .checked_add(halves)
-        .ok_or(AllocError)?;
+    let bound = certificate.kernel.len() + halves;
     let size = answer.set.len();
     if bound == size {
         Ok(Verdict::Yes)

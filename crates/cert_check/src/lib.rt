@@ -7,6 +7,7 @@
 mod answers;
 mod counts;
 mod judging;
+mod laws;
 #[cfg(test)]
 mod made;
 #[cfg(test)]
@@ -16,3 +17,4 @@ mod tests;
 
 pub use answers::Verdict;
 pub use judging::verdict;
+pub use laws::verdicts_are_unique;

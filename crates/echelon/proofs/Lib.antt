@@ -7,3 +7,5 @@ pub mod Insertion
 pub mod Prefixes
 pub mod Loops
 pub mod Found
+pub mod Growing
+pub mod Entries

@@ -1,8 +1,8 @@
 //! The basis, as the list of the vectors that it took.
 
-ghost use Rattle.std.specs.Prelude.{◌≡◌, ◌≤◌, ◌↔◌, [], IfOk, OnErr, IsTrue, map, length, take};
+ghost use Rattle.std.specs.Prelude.{◌≡◌, ◌≤◌, ◌↔◌, [], IfOk, OnErr, IsTrue, MatchOption, map, length, take};
 ghost use Rattle.linear_algebra.specs.Vectors.{AreVectors};
-ghost use Rattle.linear_algebra.specs.Spans.{InSpan, IsIndependent};
+ghost use Rattle.linear_algebra.specs.Spans.{InSpan, Combines, IsIndependent};
 
 use crate::elimination::{first_nonzero, negated, next_step, reduce, remainder_of};
 use crate::step::Step;
@@ -72,6 +72,19 @@ impl<F: Field> Echelon<F> {
         }
     }
 
+    /// The coefficients that combine the vectors that were taken to `v`. `None` says that `v` is outside the span.
+    pub fn coefficients(&self, v: &[F]) -> Result<Option<Row<F>>, AllocError>
+        requires { length v.now ≡ self.now.width }
+        ensures { IfOk result (λ found. MatchOption found (¬ (InSpan F.scalars self.now.width self.now.rows (map F.number v.now)))
+            (λ cs. Combines F.scalars self.now.width self.now.rows cs (map F.number v.now))) }
+    {
+        let found = remainder_of(self.alloc, &self.steps, v)?;
+        match first_nonzero(found.rest.as_slice()) {
+            None => Ok(Some(negated(self.alloc, found.coefficients)?)),
+            Some(_) => Ok(None),
+        }
+    }
+
     /// How many vectors were taken: the rank of the subspace.
     pub fn rank(&self) -> usize
         ensures value { result ≡ length self.now.rows }
@@ -97,6 +110,16 @@ impl<F: Field> Echelon<F> {
         ensures { IsResidue F.scalars self.now.width self.now.rows (map F.number v.old) (map F.number v.new) }
     {
         reduce(&self.steps, v);
+    }
+
+    /// The residue of `v`, as [`Echelon::reduce_in_place`] makes it.
+    pub fn residue(&self, v: &[F]) -> Result<Row<F>, AllocError>
+        requires { length v.now ≡ self.now.width }
+        ensures { IfOk result (IsResidue F.scalars self.now.width self.now.rows (map F.number v.now)) }
+    {
+        let mut residue = Row::copy_of(self.alloc, v)?;
+        self.reduce_in_place(residue.as_mut_slice());
+        Ok(residue)
     }
 
     /// Tells whether `v` is in the span. The content of `scratch` is lost.

@@ -24,7 +24,7 @@ module _ (S : Scalars) where
   vector_sum-push (x ∷ u) [] a b e = absurd (omega arith)
   vector_sum-push (x ∷ u) (y ∷ v) a b e = ap (λ w. S.sum x y ∷ w) (vector_sum-push u v a b (omega arith))
 
-  length-vector_sum : (u v : List ℕ) → length u ≡ length v → length (vector_sum S u v) ≡ length u
+  pub length-vector_sum : (u v : List ℕ) → length u ≡ length v → length (vector_sum S u v) ≡ length u
   unfolding vector_sum
   length-vector_sum [] v e = refl
   length-vector_sum (x ∷ u) [] e = absurd (omega arith)

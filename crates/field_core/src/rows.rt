@@ -1,6 +1,6 @@
 //! A list of vectors of one width.
 
-ghost use Rattle.std.specs.Prelude.{◌≡◌, ◌<◌, OnOk, OnErr, [], ◌∷◌, ◌++◌, List, ℕ, map, length, slice_index_or};
+ghost use Rattle.std.specs.Prelude.{◌≡◌, ◌<◌, ◌^◌, OnOk, OnErr, [], ◌∷◌, ◌++◌, List, ℕ, map, length, slice_index_or};
 ghost use Rattle.linear_algebra.specs.Vectors.{AreVectors};
 
 use crate::{Field, Row};
@@ -53,6 +53,7 @@ impl<F: Field> Rows<F> {
     pub fn len(&self) -> usize
         ensures value { result ≡ length self.now.rows }
         ensures vectors { AreVectors F.scalars self.now.width self.now.rows }
+        ensures small { result < 2 ^ 63 }
     {
         self.rows.len()
     }

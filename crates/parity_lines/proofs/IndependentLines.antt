@@ -12,7 +12,8 @@ use Rattle.linear_algebra.proofs.Combinations.{combination-append, combination-m
 use Rattle.echelon.specs.Inserted.{Inserts}
 use Rattle.echelon.specs.declared.basis.Inserted.TheVariants.{New}
 use Rattle.parity_lines.proofs.Border.{vectors_at-vectors}
-use Rattle.parity_lines.proofs.Growth.{independent_more, vectors_at-push}
+use Rattle.echelon.proofs.Growing.{independent_more}
+use Rattle.parity_lines.proofs.Growth.{vectors_at-push}
 use Rattle.parity_lines.specs.Problems.{ParityProblem, IsProblem, line_at, vectors_at}
 use Rattle.parity_lines.specs.Relations.{IsDifference, IsMonicRelation}
 use Rattle.parity_lines.specs.Independence.{IsRelation}

@@ -3,4 +3,5 @@ pub mod EasyHalf
 pub mod Growth
 pub mod IndependentLines
 pub mod LinePairs
+pub mod LineSets
 pub mod Relations

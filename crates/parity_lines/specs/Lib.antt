@@ -3,6 +3,5 @@ pub mod LineSets
 pub mod Certificates
 pub mod Shown
 pub mod PartLists
-pub mod Grown
 pub mod Independence
 pub mod Relations

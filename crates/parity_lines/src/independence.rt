@@ -1,7 +1,7 @@
 //! Whether a set of lines is independent.
 
 ghost use Rattle.std.specs.Prelude.{◌≡◌, ◌≢◌, ◌<◌, ◌+◌, ◌*◌, ◌++◌, ℕ, All, IfOk, MatchOption, cond, length, map};
-ghost use Rattle.parity_lines.specs.Independence.{TellsIndependence};
+ghost use Rattle.parity_lines.specs.Independence.{TellsIndependence, TellsBasis};
 ghost use Rattle.parity_lines.specs.Relations.{IsDifference, IsLeadInverse, IsMonicMultiple, IsMonicRelation};
 ghost use Rattle.linear_algebra.specs.Vectors.{zero_vector};
 
@@ -87,6 +87,39 @@ fn relation<F: Field>(
     Ok(row)
 }
 
+/// What an elimination of the vectors of lines gives.
+#[derive(Drop)]
+pub enum LineBasis<F: Field> {
+    /// The vectors are independent, and were taken in order.
+    Basis(Echelon<F>),
+    /// A relation of the vectors, as in [`Independence::Relation`].
+    Relation(Row<F>),
+}
+
+/// The basis that took the vectors of the lines, two a line in order, where they are independent.
+pub fn basis_of_lines<F: Field>(
+    alloc: Global,
+    problem: &Problem<F>,
+    set: &LineSet,
+) -> Result<LineBasis<F>, AllocError>
+    requires { All (λ m. m < length problem.now.lines) set.now }
+    ensures { IfOk result (TellsBasis F.scalars problem.now set.now) }
+{
+    let _lines = problem.len();
+    let mut basis = Echelon::new(alloc, problem.dimension())?;
+    for i in 0..set.len() {
+        let line = set.at(i);
+        let left = set.len() - i - 1;
+        if let Inserted::Old(coefficients) = basis.insert(problem.first(line))? {
+            return Ok(LineBasis::Relation(relation(alloc, coefficients.as_slice(), true, left)?));
+        }
+        if let Inserted::Old(coefficients) = basis.insert(problem.second(line))? {
+            return Ok(LineBasis::Relation(relation(alloc, coefficients.as_slice(), false, left)?));
+        }
+    }
+    Ok(LineBasis::Basis(basis))
+}
+
 /// Tells whether the vectors of the lines, two a line in order, are independent.
 pub fn is_independent<F: Field>(
     alloc: Global,
@@ -96,27 +129,8 @@ pub fn is_independent<F: Field>(
     requires { All (λ m. m < length problem.now.lines) set.now }
     ensures { IfOk result (TellsIndependence F.scalars problem.now set.now) }
 {
-    let _lines = problem.len();
-    let mut basis = Echelon::new(alloc, problem.dimension())?;
-    for i in 0..set.len() {
-        let line = set.at(i);
-        let left = set.len() - i - 1;
-        if let Inserted::Old(coefficients) = basis.insert(problem.first(line))? {
-            return Ok(Independence::Relation(relation(
-                alloc,
-                coefficients.as_slice(),
-                true,
-                left,
-            )?));
-        }
-        if let Inserted::Old(coefficients) = basis.insert(problem.second(line))? {
-            return Ok(Independence::Relation(relation(
-                alloc,
-                coefficients.as_slice(),
-                false,
-                left,
-            )?));
-        }
+    match basis_of_lines(alloc, problem, set)? {
+        LineBasis::Basis(_basis) => Ok(Independence::Independent),
+        LineBasis::Relation(relation) => Ok(Independence::Relation(relation)),
     }
-    Ok(Independence::Independent)
 }

@@ -14,11 +14,13 @@ mod line_set;
 mod parts;
 mod problem;
 mod ranks;
+#[cfg(test)]
+mod tests;
 
 pub use answer::{Answer, Certificate};
-pub use independence::{Independence, is_independent};
+pub use independence::{Independence, LineBasis, basis_of_lines, is_independent};
 pub use laws::good_answer_is_largest;
 pub use line_set::LineSet;
 pub use parts::Parts;
 pub use problem::Problem;
-pub use ranks::{added_rank, basis_of, rank_over};
+pub use ranks::{added_rank, rank_over};

@@ -1,6 +1,6 @@
 //! A set of lines, by increasing position.
 
-ghost use Rattle.std.specs.Prelude.{◌≡◌, ◌<◌, ◌↔◌, [], ◌∷◌, ◌++◌, All, OnOk, OnErr, IsTrue, length, slice_index};
+ghost use Rattle.std.specs.Prelude.{◌≡◌, ◌≢◌, ◌<◌, ◌↔◌, ◌⊎◌, [], ◌∷◌, ◌++◌, ℕ, All, IfOk, OnOk, OnErr, IsTrue, length, slice_index};
 ghost use Rattle.std.specs.List.{Contains};
 ghost use Rattle.std.specs.List.Sorted.{IsStrictlyIncreasing};
 
@@ -42,6 +42,39 @@ impl LineSet {
     {
         self.lines.push(line)?;
         Ok(())
+    }
+
+    /// The same set.
+    pub fn copied(&self, alloc: Global) -> Result<LineSet, AllocError>
+        ensures { IfOk result (λ copy. copy ≡ self.now) }
+    {
+        let lines = self.lines.iter().copied().collect(alloc)?;
+        Ok(LineSet { lines })
+    }
+
+    /// The set with the line.
+    pub fn with(&self, alloc: Global, line: usize) -> Result<LineSet, AllocError>
+        ensures { IfOk result (λ set. IsStrictlyIncreasing set × ((l : ℕ) → Contains set l ↔ (Contains self.now l ⊎ (l ≡ line)))) }
+    {
+        let mut lines: Vec<usize> = self.lines.iter().copied().collect(alloc)?;
+        match lines.binary_search(&line) {
+            Ok(_) => {}
+            Err(place) => lines.insert(place, line)?,
+        }
+        Ok(LineSet { lines })
+    }
+
+    /// The set without the line.
+    pub fn without(&self, alloc: Global, line: usize) -> Result<LineSet, AllocError>
+        ensures { IfOk result (λ set. IsStrictlyIncreasing set × ((l : ℕ) → Contains set l ↔ (Contains self.now l × (l ≢ line)))) }
+    {
+        let lines = self
+            .lines
+            .iter()
+            .copied()
+            .filter(|l| *l != line)
+            .collect(alloc)?;
+        Ok(LineSet { lines })
     }
 
     /// How many lines there are.

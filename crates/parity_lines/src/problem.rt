@@ -1,6 +1,6 @@
 //! A parity problem.
 
-ghost use Rattle.std.specs.Prelude.{◌≡◌, ◌<◌, [], ◌∷◌, ◌++◌, OnOk, OnErr, map, length};
+ghost use Rattle.std.specs.Prelude.{◌≡◌, ◌<◌, ◌^◌, [], ◌∷◌, ◌++◌, OnOk, OnErr, map, length};
 ghost use Rattle.parity_lines.specs.Problems.{IsProblem, line_at};
 
 use field_core::{Field, Row};
@@ -74,6 +74,7 @@ impl<F: Field> Problem<F> {
     pub fn len(&self) -> usize
         ensures value { result ≡ length self.now.lines }
         ensures problem { IsProblem F.scalars self.now }
+        ensures small { result < 2 ^ 63 }
     {
         self.lines.len()
     }

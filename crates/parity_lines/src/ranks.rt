@@ -1,27 +1,15 @@
 //! Ranks over a kernel, by elimination.
 
 ghost use Rattle.std.specs.Prelude.{◌≡◌, ◌<◌, ℕ, All, IfOk, OnErr, length};
-ghost use Rattle.field_core.specs.Matrix.{Matrix};
 ghost use Rattle.linear_algebra.specs.Vectors.{AreVectors};
 ghost use Rattle.linear_algebra.specs.Ranks.{rank_over as rank_added};
 ghost use Rattle.parity_lines.specs.Problems.{vectors_at};
-ghost use Rattle.parity_lines.specs.Grown.{IsBasisOf, Grows, GrowsToSpan};
+ghost use Rattle.echelon.specs.Grown.{Grows, GrowsToSpan};
 
 use crate::{LineSet, Problem};
-use echelon::Echelon;
+use echelon::{Echelon, basis_of};
 use field_core::{Field, Rows};
 use std::alloc::{AllocError, Global};
-
-/// A basis of the span of the vectors.
-pub fn basis_of<F: Field>(alloc: Global, vectors: &Rows<F>) -> Result<Echelon<F>, AllocError>
-    ensures { IfOk result (IsBasisOf F.scalars vectors.now) }
-{
-    let mut basis = Echelon::new(alloc, vectors.width())?;
-    for i in 0..vectors.len() {
-        let _found = basis.insert(vectors.row(i))?;
-    }
-    Ok(basis)
-}
 
 /// Inserts both vectors of each line of the part.
 fn insert_lines<F: Field>(

@@ -19,7 +19,8 @@ module _ (S : Scalars) where
       before zero h = e
       before (suc k) h = r.1.zeros_before k (omega arith)
 
-  pivot_or_zero : (p : List ℕ) → ((i : ℕ) × IsFirstPivot S p i) ⊎ (p ≡ zero_vector S (length p))
+  -- a list has a first pivot, or is zeros
+  pub pivot_or_zero : (p : List ℕ) → ((i : ℕ) × IsFirstPivot S p i) ⊎ (p ≡ zero_vector S (length p))
   pivot_or_zero [] = inr refl
   pivot_or_zero (a ∷ p) = go (ℕ_discrete a S.zero) (pivot_or_zero p)
     where

@@ -1,14 +1,9 @@
-use Rattle.std.proofs.Common.{◌≡◌, ◌+◌, ◌<◌, ◌≤◌, ◌^◌, ℕ, length, Option, Some, None, ap₂, sym, ◌∙◌, subst}
-use Rattle.std.specs.Prelude.{SomeIff}
+use Rattle.std.proofs.Common.{◌+◌, ◌<◌, ◌≤◌, length, ap₂, sym, ◌∙◌, subst}
 use Rattle.parity_lines.specs.Independence.{TellsIndependence}
 use Rattle.cert_check.specs.Verdicts.{AreIndependent, TellsFault}
 use Rattle.cert_check.specs.declared.answers.Verdict.TheVariants.{Yes, KernelDependent, BoundOff}
 use Rattle.cert_check.proofs.Judged.{told_yes, told_largest, fault_told, kernel_dependent, kernel_independent, halves_of_kernel, good_answer_found}
 use Rattle.cert_check.proofs.judging.verdict.Goals as goal
-
-sum_is : (r : Option ℕ) (a b s : ℕ) → SomeIff r (a + b < 2 ^ 64) (a + b) → r ≡ Some s → s ≡ a + b
-sum_is (Some t) a b s h e = let same : t ≡ s = cc in sym same ∙ h.1
-sum_is None a b s h e = absurd (cc)
 
 pub returns-then-rank-len-clause-tells : goal.returns-then-rank-len-clause-tells
 returns-then-rank-len-clause-tells g c =
@@ -47,8 +42,7 @@ returns-then-bound-size-clause-tells g c =
     let of_kernel = kernel_independent S F p kernel basis c.requires.width c.len.ensures.vectors c.in_ok-basis.ensures as_many in
     let independent : AreIndependent S p set kernel = record { of_set = of_set; of_kernel = of_kernel } in
     let whole = subst (TellsFault p parts) c.in_default-2.is c.in_ok-fault.ensures in
-    let is_bound = sum_is c.checked_add.result c.len-2.result c.in_ok-halves.halves c.in_ok-bound.bound c.checked_add.ensures c.in_ok-bound.ensures.ok_part
-    ∙ ap₂ (λ m n. m + n) c.len-2.ensures.value (c.in_ok-halves.ensures ∙ halves_of_kernel S F p kernel basis c.requires.width c.len.ensures.vectors c.in_ok-basis.ensures c.len-lines.ensures.problem parts c.requires.parts) in
+    let is_bound = ap₂ (λ m n. m + n) c.len-2.ensures.value (c.in_ok-halves.ensures.sum ∙ halves_of_kernel S F p kernel basis c.requires.width c.len.ensures.vectors c.in_ok-basis.ensures c.len-lines.ensures.problem parts c.requires.parts) in
     good_answer_found S F p kernel basis c.requires.width c.len.ensures.vectors c.in_ok-basis.ensures c.len-lines.ensures.problem set parts c.len-size.ensures.increasing c.requires.set
     c.len-parts.ensures.parts c.requires.parts independent whole.0 whole.1 (sym is_bound ∙ c.if-bound-size.true ∙ c.len-size.ensures.value)
 
@@ -66,8 +60,7 @@ returns-clause-tells g c =
     let of_kernel = kernel_independent S F p kernel basis c.requires.width c.len.ensures.vectors c.in_ok-basis.ensures as_many in
     let independent : AreIndependent S p set kernel = record { of_set = of_set; of_kernel = of_kernel } in
     let whole = subst (TellsFault p parts) c.in_default-2.is c.in_ok-fault.ensures in
-    let is_bound = sum_is c.checked_add.result c.len-2.result c.in_ok-halves.halves c.in_ok-bound.bound c.checked_add.ensures c.in_ok-bound.ensures.ok_part
-    ∙ ap₂ (λ m n. m + n) c.len-2.ensures.value (c.in_ok-halves.ensures ∙ halves_of_kernel S F p kernel basis c.requires.width c.len.ensures.vectors c.in_ok-basis.ensures c.len-lines.ensures.problem parts c.requires.parts) in
+    let is_bound = ap₂ (λ m n. m + n) c.len-2.ensures.value (c.in_ok-halves.ensures.sum ∙ halves_of_kernel S F p kernel basis c.requires.width c.len.ensures.vectors c.in_ok-basis.ensures c.len-lines.ensures.problem parts c.requires.parts) in
     (independent, whole.0, whole.1, c.len-size.ensures.value, is_bound, c.if-bound-size.false)
 
 pub returns-then-rank-len-clause-yes : goal.returns-then-rank-len-clause-yes
@@ -80,7 +73,7 @@ pub returns-then-bound-size-clause-yes : goal.returns-then-bound-size-clause-yes
 returns-then-bound-size-clause-yes g c = told_yes g.F.Field.scalars c.args.problem.now c.args.answer.now.set c.args.answer.now.certificate.kernel c.args.answer.now.certificate.parts Yes (returns-then-bound-size-clause-tells g c)
 
 pub returns-clause-yes : goal.returns-clause-yes
-returns-clause-yes g c = told_yes g.F.Field.scalars c.args.problem.now c.args.answer.now.set c.args.answer.now.certificate.kernel c.args.answer.now.certificate.parts (BoundOff c.len-size.result c.in_ok-bound.bound) (returns-clause-tells g c)
+returns-clause-yes g c = told_yes g.F.Field.scalars c.args.problem.now c.args.answer.now.set c.args.answer.now.certificate.kernel c.args.answer.now.certificate.parts (BoundOff c.len-size.result (c.len-2.result + c.in_ok-halves.halves)) (returns-clause-tells g c)
 
 pub returns-then-bound-size-clause-largest : goal.returns-then-bound-size-clause-largest
 returns-then-bound-size-clause-largest g c =

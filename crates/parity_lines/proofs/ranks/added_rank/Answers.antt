@@ -1,7 +1,7 @@
 use Rattle.std.proofs.Common.{◌-◌, ap, ap₂, ◌∙◌}
 use Rattle.linear_algebra.specs.Ranks.{rank_over}
 use Rattle.parity_lines.specs.Problems.{vectors_at}
-use Rattle.parity_lines.proofs.Growth.{added_is_rank}
+use Rattle.echelon.proofs.Growing.{added_is_rank}
 use Rattle.parity_lines.proofs.ranks.added_rank.Goals as goal
 
 pub returns-clause-rank : goal.returns-clause-rank

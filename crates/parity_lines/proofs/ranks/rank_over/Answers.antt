@@ -3,7 +3,7 @@ use Rattle.linear_algebra.specs.Vectors.{AreVectors}
 use Rattle.linear_algebra.specs.Ranks.{rank_over}
 use Rattle.parity_lines.specs.Problems.{vectors_at}
 use Rattle.parity_lines.proofs.Border.{vectors_at-vectors}
-use Rattle.parity_lines.proofs.Growth.{over_basis}
+use Rattle.echelon.proofs.Growing.{over_basis}
 use Rattle.parity_lines.proofs.ranks.rank_over.Goals as goal
 
 pub returns : goal.returns

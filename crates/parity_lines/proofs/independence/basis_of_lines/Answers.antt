@@ -1,13 +1,13 @@
-use Rattle.std.proofs.Common.{◌<◌, ◌+◌, ◌*◌, ◌-◌, ℕ, List, [], map, length, refl, zero-add, ap, sym, ◌∙◌, subst, arith}
+use Rattle.std.proofs.Common.{◌<◌, ap₂, take_all, ◌+◌, ◌*◌, ◌-◌, ℕ, List, [], map, length, refl, zero-add, ap, sym, ◌∙◌, subst, arith}
 use Rattle.std.proofs.lemmas.List.Elements.{All-get_or}
-use Rattle.parity_lines.specs.Problems.{line_at}
+use Rattle.parity_lines.specs.Problems.{line_at, vectors_at}
 use Rattle.parity_lines.proofs.LinePairs.{line_at_vectors}
 use Rattle.field_core.specs.Matrix.{Matrix}
 use Rattle.field_core.proofs.Values.{vector_of_values}
 use Rattle.echelon.specs.Inserted.{Inserts}
 use Rattle.parity_lines.specs.Relations.{IsMonicRelation}
 use Rattle.parity_lines.proofs.IndependentLines.{no_lines, first_is_old, second_is_old, line_is_new, all_lines}
-use Rattle.parity_lines.proofs.independence.is_independent.Goals as goal
+use Rattle.parity_lines.proofs.independence.basis_of_lines.Goals as goal
 
 pub loop-i-init : goal.loop-i-init
 loop-i-init g c =
@@ -68,4 +68,10 @@ returns-in-Old-2 g c =
     (subst (λ k. IsMonicRelation S (map f c.as_slice-in-Old-2.result.now) k c.in_ok-relation-2.field-0) (zero-add (2 * (c.len.result - c.loop-i.i - 1))) c.in_ok-relation-2.ensures)))
 
 pub returns : goal.returns
-returns g c = all_lines g.F.Field.scalars g.met.F.Field.lawful c.args.problem.now c.len-lines.ensures.problem c.args.set.now c.requires c.loop-i.i c.loop-i.basis (omega arith) c.loop-i.invariant
+returns g c =
+    let p = c.args.problem.now in
+    let M = c.args.set.now in (
+      all_lines g.F.Field.scalars g.met.F.Field.lawful p c.len-lines.ensures.problem M c.requires c.loop-i.i c.loop-i.basis (omega arith) c.loop-i.invariant,
+      ap₂ (λ (n : ℕ) (rows : List (List ℕ)). let m : Matrix = record { width = n; rows = rows } in m) c.loop-i.invariant.width
+          (c.loop-i.invariant.rows ∙ ap (vectors_at p) (take_all c.loop-i.i M (omega arith))),
+    )

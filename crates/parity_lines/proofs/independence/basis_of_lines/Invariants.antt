@@ -1,7 +1,7 @@
 use Rattle.std.proofs.Common.{◌≡◌, take}
 use Rattle.linear_algebra.specs.Spans.{IsIndependent}
 use Rattle.parity_lines.specs.Problems.{vectors_at}
-use Rattle.parity_lines.proofs.independence.is_independent.Given as goal
+use Rattle.parity_lines.proofs.independence.basis_of_lines.Given as goal
 
 abbrev pub invariant-loop-i : goal.invariant-loop-i
 invariant-loop-i g l = record {

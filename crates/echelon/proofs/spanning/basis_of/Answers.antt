@@ -1,6 +1,6 @@
 use Rattle.std.proofs.Common.{map, arith}
-use Rattle.parity_lines.proofs.Growth.{basis_so_far, whole_basis}
-use Rattle.parity_lines.proofs.ranks.basis_of.Goals as goal
+use Rattle.echelon.proofs.Growing.{basis_so_far, whole_basis}
+use Rattle.echelon.proofs.spanning.basis_of.Goals as goal
 
 pub loop-i-preserved : goal.loop-i-preserved
 loop-i-preserved g c =
