@@ -1,0 +1,12 @@
+pub mod Increasing
+pub mod Leading
+pub mod RowsAt
+pub mod Reduced
+pub mod ReducedBases
+pub mod Unique
+pub mod Kept
+pub mod Results
+pub mod LessCombination
+pub mod Taking
+pub mod Walks
+pub mod Removing

@@ -1,0 +1,5 @@
+pub mod ReducedBases
+pub mod Subspaces
+pub mod Reductions
+pub mod Meetings
+pub mod Quotients
