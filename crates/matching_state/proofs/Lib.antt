@@ -1,0 +1,13 @@
+pub mod Ties
+pub mod Residues
+mod Ratios
+mod FoundSupports
+mod Findings
+mod Tips
+pub mod Products
+pub mod PairSearch
+pub mod StepSets
+pub mod OneStep
+pub mod DeterminantTies
+pub mod Surveys
+pub mod DirectStep

@@ -1,0 +1,10 @@
+pub mod Chosen
+pub mod Bases
+pub mod Supports
+pub mod Places
+pub mod Exposures
+pub mod Steps
+pub mod Pairs
+pub mod Surveys
+pub mod States
+pub mod Overlaps
