@@ -1,3 +1,2 @@
-pub mod Answered
-pub mod AnswerFiles
+pub mod Files
 pub mod Outcomes

@@ -5,29 +5,34 @@ use Rattle.cert_check.specs.Verdicts.{Tells}
 use Rattle.cert_check.specs.declared.answers.Verdict.{Verdict}
 use Rattle.cert_check.specs.declared.answers.Verdict.TheVariants.{Yes, Dependent, KernelDependent, PartsMissing, PartsTwice, BoundOff}
 use Rattle.line_lexer.specs.Lines.{Line}
+use Rattle.line_lexer.specs.Words.{spelled}
 use Rattle.line_lexer.specs.declared.refusal.Counted.TheVariants.{Bytes}
 use Rattle.line_lexer.specs.declared.refusal.TextRefusal.{TextRefusal}
 use Rattle.line_lexer.specs.declared.refusal.TextRefusal.TheVariants as refusal
+use Rattle.linear_algebra.specs.Scalars.{Scalars}
 use Rattle.parity_lines.specs.Problems.{ParityProblem}
 use Rattle.parity_program.specs.declared.command.Command.{Command}
-use Rattle.parity_program.specs.declared.command.Command.TheVariants.{Check}
-use Rattle.parity_text.specs.Files.{answer_file}
+use Rattle.parity_program.specs.declared.command.Command.TheVariants.{Check, Improve}
+use Rattle.parity_program.specs.Improvements.{Improvement, TellsImprovement, improvement_lines, is_dependent}
+use Rattle.parity_text.specs.Files.{answer_file, choice_file}
 use Rattle.parity_text.specs.Values.{AnswerValue}
 use Rattle.small_fields.specs.ScalarsOf.{scalars_of}
 use Rattle.text_forms.specs.Forms.{of_text}
 
--- what an input of a command says: for `check` the order of a field, a problem over it, and an answer
+-- what an input of a command says: the order of a field, a problem over it, and for `check` an answer, for `improve` a set of lines
 pub data Input : Type 0 where
   answered : ℕ → ParityProblem → AnswerValue → Input
+  chosen : ℕ → ParityProblem → List ℕ → Input
 
--- the input of a whole text
-abbrev pub input_of_answer : Result (((ℕ × ParityProblem) × AnswerValue) × List Line) TextRefusal → Result Input TextRefusal
-input_of_answer (Ok x) = Ok (answered x.0.0.0 x.0.0.1 x.0.1)
-input_of_answer (Err e) = Err e
+-- the input of a whole text, by what stands behind the problem
+abbrev pub input_of_file : {A : Type 0} → (ℕ → ParityProblem → A → Input) → Result (((ℕ × ParityProblem) × A) × List Line) TextRefusal → Result Input TextRefusal
+input_of_file make (Ok x) = Ok (make x.0.0.0 x.0.0.1 x.0.1)
+input_of_file make (Err e) = Err e
 
 -- the input that a command reads from the bytes, or its first refusal
 abbrev pub input_of : Command → List ℕ → Result Input TextRefusal
-input_of Check bytes = input_of_answer (of_text answer_file bytes)
+input_of Check bytes = input_of_file answered (of_text answer_file bytes)
+input_of Improve bytes = input_of_file chosen (of_text choice_file bytes)
 
 -- what a command makes of the bytes: at most 4194304 are an input
 unfoldable pub reading : Command → List ℕ → Result Input TextRefusal
@@ -59,6 +64,19 @@ is_no (BoundOff size bound) = true
 abbrev pub verdict_reply : Verdict → ReplyText
 verdict_reply verdict = record { text = verdict_words verdict ++ 10 ∷ []; negative = is_no verdict }
 
--- The reply to an input: to an answer the line of the verdict on it, over the field of the order.
+-- to an answer: the line of the verdict on it
+abbrev pub IsVerdictReply : Scalars → ParityProblem → AnswerValue → ReplyText → Type 0
+IsVerdictReply S p a reply = (verdict : Verdict) × Tells S p a.set a.kernel a.parts verdict × (reply ≡ verdict_reply verdict)
+
+-- the lines that tell an improvement
+abbrev pub improvement_reply : Improvement → ReplyText
+improvement_reply improvement = record { text = spelled (improvement_lines improvement); negative = is_dependent improvement }
+
+-- to a set of lines: the lines of what improves it
+abbrev pub IsImprovementReply : Scalars → ParityProblem → List ℕ → ReplyText → Type 0
+IsImprovementReply S p M reply = (improvement : Improvement) × TellsImprovement S p M improvement × (reply ≡ improvement_reply improvement)
+
+-- The reply to an input, over the field of the order.
 abbrev pub IsReply : Input → ReplyText → Type 0
-IsReply (answered q p a) reply = (verdict : Verdict) × Tells (scalars_of q) p a.set a.kernel a.parts verdict × (reply ≡ verdict_reply verdict)
+IsReply (answered q p a) reply = IsVerdictReply (scalars_of q) p a reply
+IsReply (chosen q p M) reply = IsImprovementReply (scalars_of q) p M reply

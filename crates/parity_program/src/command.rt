@@ -8,6 +8,8 @@ ghost use Rattle.parity_program.specs.Commands.{command_of, words_of};
 pub enum Command {
     /// Says whether an answer to a problem is good.
     Check,
+    /// Makes a longer independent set of lines by one step.
+    Improve,
 }
 
 impl Command {
@@ -17,6 +19,7 @@ impl Command {
     {
         match words {
             [word] if word.as_str() == "check" => Some(Command::Check),
+            [word] if word.as_str() == "improve" => Some(Command::Improve),
             _ => None,
         }
     }

@@ -3,13 +3,18 @@
 //! [`run`] does all that the program does, and its contract states the whole promise over the bytes that the
 //! source has left and the sink has written: `Outcome` in `specs/Outcome.antt` says what each status means,
 //! `specs/Replies.antt` what an input says and what the reply to it is, `specs/StatusLines.antt` the codes and
-//! lines. `main` only makes the real source and sink. The reply of `check` is proved in `proofs/check` and
-//! `proofs/AnswerFiles.antt`, the outcome of a run in `proofs/running` and `proofs/Outcomes.antt`.
+//! lines. `check` replies with the verdict on an answer, `improve` with a longer independent set that one step
+//! makes of a set of lines, that there is none, or a relation (`specs/Improvements.antt`). `main` only makes the
+//! real source and sink. That the reply is that to the whole input is proved in `proofs/replying` and
+//! `proofs/Files.antt`, each command in `proofs/check` and `proofs/improve`, the outcome of a run in
+//! `proofs/running` and `proofs/Outcomes.antt`.
 #![tactic(auto)]
 
 mod check;
 mod command;
+mod improve;
 mod reply;
+mod replying;
 mod running;
 mod status;
 mod status_line;

@@ -1,11 +1,18 @@
 //! The reply to an accepted input.
 
-ghost use Rattle.std.specs.Prelude.{◌≡◌, ◌++◌, ◌+◌, ◌<◌, ◌^◌, IfOk, OnOk};
+ghost use Rattle.std.specs.Prelude.{◌≡◌, ◌∷◌, ◌++◌, ◌+◌, ◌<◌, ◌^◌, map, IfOk, OnOk};
 ghost use Rattle.std.specs.Fmt.{decimal};
-ghost use Rattle.parity_program.specs.Replies.{verdict_words, verdict_reply as reply_of};
+ghost use Rattle.std.specs.List.{flat_map};
+ghost use Rattle.line_lexer.specs.Words.{spelled};
+ghost use Rattle.parity_program.specs.Improvements.{improvement_lines, of_step};
+ghost use Rattle.parity_program.specs.Improvements.Improvement.{dependent};
+ghost use Rattle.parity_program.specs.Replies.{verdict_words, verdict_reply as reply_of, improvement_reply};
 ghost use Rattle.parity_program.specs.Shown.{shown, HasSmallPosition};
 
 use cert_check::Verdict;
+use field_core::{Field, Row};
+use parity_lines::LineSet;
+use parity_text::write_set;
 use std::alloc::{AllocError, Global};
 
 /// A text, and whether it says no.
@@ -60,5 +67,53 @@ pub fn verdict_reply(alloc: Global, verdict: Verdict) -> Result<Reply, AllocErro
     Ok(Reply {
         text,
         negative: verdict != Verdict::Yes,
+    })
+}
+
+/// Puts the text of a choice of the longer set behind, or the line that says that there is none.
+#[tactic(auto, unfolding(line_lexer::specs::Words::spelled, line_lexer::specs::Words::line_text))]
+fn put_step(out: &mut Vec<u8>, step: Option<LineSet>) -> Result<(), AllocError>
+    ensures { OnOk result (out.new.items ≡ out.old.items ++ spelled (improvement_lines (of_step step))) }
+{
+    match step {
+        Some(larger) => write_set(out, &larger),
+        None => out.extend_from_slice(b"none\n"),
+    }
+}
+
+/// The lines that tell what one step makes of an independent set.
+pub fn step_reply(alloc: Global, step: Option<LineSet>) -> Result<Reply, AllocError>
+    ensures { IfOk result (λ reply. shown reply ≡ improvement_reply (of_step step)) }
+{
+    let mut text = Vec::new(alloc);
+    put_step(&mut text, step)?;
+    Ok(Reply {
+        text,
+        negative: false,
+    })
+}
+
+/// Puts the numbers of the coefficients behind, each with a space before it.
+fn put_coefficients<F: Field>(out: &mut Vec<u8>, coefficients: &[F]) -> Result<(), AllocError>
+    ensures { OnOk result (out.new.items ≡ out.old.items ++ flat_map (λ w. 32 ∷ w) (map decimal (map F.number coefficients.now))) }
+{
+    for c in coefficients {
+        out.push(b' ')?;
+        put_number(out, usize::from(c.number()))?;
+    }
+    Ok(())
+}
+
+/// The lines that tell a relation of the set's vectors.
+pub fn relation_reply<F: Field>(alloc: Global, relation: &Row<F>) -> Result<Reply, AllocError>
+    ensures { IfOk result (λ reply. shown reply ≡ improvement_reply (dependent relation.now)) }
+{
+    let mut text = Vec::new(alloc);
+    text.extend_from_slice(b"no dependent\nrelation")?;
+    put_coefficients(&mut text, relation.as_slice())?;
+    text.push(b'\n')?;
+    Ok(Reply {
+        text,
+        negative: true,
     })
 }

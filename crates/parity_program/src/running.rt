@@ -5,26 +5,14 @@ ghost use Rattle.std.specs.Io.KnownBytes.{IsAtEnd};
 ghost use Rattle.parity_program.specs.Commands.{command_of, words_of};
 ghost use Rattle.parity_program.specs.Outcome.{Outcome, HasReadCause, HasWriteCause, HasByteCause, NoFault, EndsAfterReading, IsAnsweredOrOutOfMemory};
 ghost use Rattle.parity_program.specs.Replies.{Input, reading};
-ghost use Rattle.parity_program.specs.Shown.{RepliesTo, status_of};
+ghost use Rattle.parity_program.specs.Shown.{status_of};
 ghost use Rattle.text_forms.specs.Gives.{IsOfText};
 
-use crate::check::check;
-use crate::reply::Reply;
+use crate::replying::reply_to;
 use crate::{Command, Status};
 use line_lexer::{Counted, TextRefusal};
 use std::alloc::Global;
 use text_io::{ReadAnswer, Sink, Source, read_all, write_whole};
-
-/// The reply of a command to an input.
-fn reply_to(alloc: Global, command: Command, bytes: &[u8]) -> Result<Reply, TextRefusal>
-    requires { length bytes.now ≤ 4194304 }
-    ensures replies { RepliesTo command bytes.now result }
-    ensures kind { IfErr result IsOfText }
-{
-    match command {
-        Command::Check => check(alloc, bytes),
-    }
-}
 
 /// The status of a refusal.
 fn refused(refusal: TextRefusal) -> Status
@@ -41,8 +29,10 @@ fn refused(refusal: TextRefusal) -> Status
 ///
 /// `outcome` says what each status means by the bytes that the source tells and the sink is told: after `Done`
 /// and `No` the sink has received exactly the reply to the input, after `WriteFault` a proper prefix of it, and
-/// after any other status nothing. With words that are no command's, nothing is read or written. `complete`
-/// says that an accepted input is answered, faults and want of memory aside.
+/// after any other status nothing. To `improve` that is an independent set that one step makes of the set in
+/// the input and that is one line longer, `none` exactly where there is no such set, and where the set is
+/// dependent a relation of its vectors. With words that are no command's, nothing is read or written.
+/// `complete` says that an accepted input is answered, faults and want of memory aside.
 pub fn run<I: Source, O: Sink>(
     alloc: Global,
     words: &[String],

@@ -17,6 +17,10 @@ const STAR: &str =
 const HUB: &str =
     "parity 1 / field 2 / dimension 10 / lines 9 / line 0 1 0 0 0 0 0 0 0 0 | 0 0 1 0 0 0 0 0 0 0 / line 0 0 1 0 0 0 0 0 0 0 | 0 0 0 1 0 0 0 0 0 0 / line 1 1 0 0 0 0 0 0 0 0 | 1 0 0 1 0 0 0 0 0 0 / line 0 0 0 0 1 0 0 0 0 0 | 0 0 0 0 0 1 0 0 0 0 / line 0 0 0 0 0 1 0 0 0 0 | 0 0 0 0 0 0 1 0 0 0 / line 1 0 0 0 1 0 0 0 0 0 | 1 0 0 0 0 0 1 0 0 0 / line 0 0 0 0 0 0 0 1 0 0 | 0 0 0 0 0 0 0 0 1 0 / line 0 0 0 0 0 0 0 0 1 0 | 0 0 0 0 0 0 0 0 0 1 / line 1 0 0 0 0 0 0 1 0 0 | 1 0 0 0 0 0 0 0 0 1 / answer 1 / size 4 / set 1 3 4 7 / kernel 1 / vector 1 0 0 0 0 0 0 0 0 0 / parts 3 / part 1 2 3 / part 4 5 6 / part 7 8 9 / end";
 
+/// A line of rank one, which is chosen.
+const FLAT: &str =
+    "parity 1 / field 5 / dimension 2 / lines 1 / line 1 2 | 2 4 / choice 1 / size 1 / set 1 / end";
+
 /// The lines that ` / ` separates, each ended by LF.
 fn lines(alloc: Global, text: &str) -> Result<Vec<u8>, AllocError> {
     let mut bytes = Vec::new(alloc);
@@ -27,16 +31,21 @@ fn lines(alloc: Global, text: &str) -> Result<Vec<u8>, AllocError> {
     Ok(bytes)
 }
 
-/// How `check` ends on these bytes, and what it writes.
-fn checked(alloc: Global, bytes: &[u8]) -> Result<(Status, Vec<u8>), AllocError> {
+/// How the command of this word ends on these bytes, and what it writes.
+fn ran(alloc: Global, word: &str, bytes: &[u8]) -> Result<(Status, Vec<u8>), AllocError> {
     let mut words = Vec::new(alloc);
-    words.push(String::from_str(alloc, "check")?)?;
+    words.push(String::from_str(alloc, word)?)?;
     let mut input = SteadySource::new(bytes);
     let mut output = MemorySink::new(alloc, 100, 100, &[])?;
     let status = run(alloc, &words, &mut input, &mut output);
     let mut written = Vec::new(alloc);
     written.extend_from_slice(output.bytes())?;
     Ok((status, written))
+}
+
+/// The same of `check`.
+fn checked(alloc: Global, bytes: &[u8]) -> Result<(Status, Vec<u8>), AllocError> {
+    ran(alloc, "check", bytes)
 }
 
 #[test]
@@ -126,6 +135,49 @@ fn whole_inputs_are_checked(rt: HostRuntime) -> Result<(), Fail> {
 }
 
 #[test]
+fn sets_are_improved(rt: HostRuntime) -> Result<(), Fail> {
+    let sets = [
+        (
+            "parity 1 / field 3 / dimension 4 / lines 3 / line 1 0 0 0 | 0 1 0 0 / line 2 0 0 0 | 0 0 1 0 / line 0 2 0 0 | 0 0 1 1 / choice 1 / size 1 / set 1 / end",
+            "choice 1 / size 2 / set 2 3 / end",
+            Status::Done,
+        ),
+        (
+            "parity 1 / field 2 / dimension 2 / lines 1 / line 1 0 | 0 1 / choice 1 / size 0 / set / end",
+            "choice 1 / size 1 / set 1 / end",
+            Status::Done,
+        ),
+        (
+            "parity 1 / field 2 / dimension 4 / lines 3 / line 1 0 0 0 | 0 1 0 0 / line 1 0 0 0 | 0 0 1 0 / line 1 0 0 0 | 0 0 0 1 / choice 1 / size 1 / set 1 / end",
+            "none",
+            Status::Done,
+        ),
+        (
+            "parity 1 / field 2 / dimension 6 / lines 5 / line 1 0 0 0 0 0 | 0 1 0 0 0 0 / line 0 1 0 0 0 0 | 0 0 1 0 0 0 / line 0 0 1 0 0 0 | 0 0 0 1 0 0 / line 0 0 0 1 0 0 | 0 0 0 0 1 0 / line 0 0 0 0 1 0 | 0 0 0 0 0 1 / choice 1 / size 2 / set 2 4 / end",
+            "none",
+            Status::Done,
+        ),
+        (
+            "parity 1 / field 2 / dimension 2 / lines 0 / choice 1 / size 0 / set / end",
+            "none",
+            Status::Done,
+        ),
+        (
+            "parity 1 / field 256 / dimension 2 / lines 1 / line 83 1 | 1 202 / choice 1 / size 1 / set 1 / end",
+            "no dependent / relation 1 83",
+            Status::No,
+        ),
+        (FLAT, "no dependent / relation 1 2", Status::No),
+    ];
+    for (text, reply, want) in sets {
+        let (status, written) = ran(rt.alloc(), "improve", &lines(rt.alloc(), text)?)?;
+        assert_eq!(rt; written.as_slice(), lines(rt.alloc(), reply)?.as_slice());
+        assert_eq!(rt; status, want);
+    }
+    Ok(())
+}
+
+#[test]
 fn line_ends_and_gaps_are_free(rt: HostRuntime) -> Result<(), Fail> {
     for (before, space) in [("", " "), ("# a comment\r\n", "\t")] {
         let mut text = Vec::new(rt.alloc());
@@ -207,30 +259,60 @@ fn refused_inputs_write_nothing(rt: HostRuntime) -> Result<(), Fail> {
 }
 
 #[test]
+fn choices_are_due(rt: HostRuntime) -> Result<(), Fail> {
+    let choices = [
+        ("answer 1 / size 1 / set 1 / end", bad(8, TextFault::Word)),
+        ("choice 1 / size 1 / set 4 / end", bad(10, TextFault::Range)),
+        (
+            "choice 1 / size 1 / set 1 / end / kernel 0",
+            bad(12, TextFault::Extra),
+        ),
+    ];
+    for (choice, want) in choices {
+        let mut text = lines(rt.alloc(), STAR.trim_end_matches(" / "))?;
+        text.extend_from_slice(&lines(rt.alloc(), choice)?)?;
+        let (status, written) = ran(rt.alloc(), "improve", &text)?;
+        assert_eq!(rt; status, want);
+        assert_eq!(rt; written.len(), 0);
+    }
+    Ok(())
+}
+
+#[test]
 fn faults_are_told(rt: HostRuntime) -> Result<(), Fail> {
     let alloc = rt.alloc();
-    let text = lines(alloc, TWO_LINES)?;
-    let mut words = Vec::new(alloc);
-    words.push(String::from_str(alloc, "check")?)?;
+    for (word, text, front) in [
+        ("check", TWO_LINES, b"ye".as_slice()),
+        ("improve", FLAT, b"no"),
+    ] {
+        let text = lines(alloc, text)?;
+        let mut words = Vec::new(alloc);
+        words.push(String::from_str(alloc, word)?)?;
 
-    let mut input = MemorySource::new(&text, 50, &[1]);
-    let mut output = MemorySink::new(alloc, 100, 100, &[])?;
-    let status = run(alloc, &words, &mut input, &mut output);
-    assert_eq!(rt; status, Status::ReadFault);
-    assert_eq!(rt; output.bytes().len(), 0);
+        let mut input = MemorySource::new(&text, 50, &[1]);
+        let mut output = MemorySink::new(alloc, 100, 100, &[])?;
+        let status = run(alloc, &words, &mut input, &mut output);
+        assert_eq!(rt; status, Status::ReadFault);
+        assert_eq!(rt; output.bytes().len(), 0);
 
-    let mut input = MemorySource::new(&text, 50, &[]);
-    let mut output = MemorySink::new(alloc, 10, 2, &[2])?;
-    let status = run(alloc, &words, &mut input, &mut output);
-    assert_eq!(rt; status, Status::WriteFault);
-    assert_eq!(rt; output.bytes(), b"ye".as_slice());
+        let mut input = MemorySource::new(&text, 50, &[]);
+        let mut output = MemorySink::new(alloc, 10, 2, &[2])?;
+        let status = run(alloc, &words, &mut input, &mut output);
+        assert_eq!(rt; status, Status::WriteFault);
+        assert_eq!(rt; output.bytes(), front);
+    }
     Ok(())
 }
 
 #[test]
 fn other_words_are_usage(rt: HostRuntime) -> Result<(), Fail> {
     let alloc = rt.alloc();
-    for words in [[].as_slice(), &["check", "x"], &["solve"]] {
+    for words in [
+        [].as_slice(),
+        &["check", "x"],
+        &["improve", "extra"],
+        &["solve"],
+    ] {
         let mut all = Vec::new(alloc);
         for word in words {
             all.push(String::from_str(alloc, word)?)?;

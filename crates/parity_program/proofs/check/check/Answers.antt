@@ -1,22 +1,22 @@
-use Rattle.std.proofs.Common.{ap₂, sym, ◌∙◌, subst, length}
-use Rattle.line_lexer.specs.Lines.{lines}
-use Rattle.parity_program.proofs.AnswerFiles.{replies_behind, head_fails}
+use Rattle.std.proofs.Common.{subst, refl}
 use Rattle.parity_program.proofs.check.check.Goals as goal
-use Rattle.parity_program.specs.Shown.{answered_over, RepliesOver}
-use Rattle.parity_text.specs.Texts.{head}
-use Rattle.small_fields.specs.FieldName.{order_of}
-use Rattle.small_fields.specs.ScalarsOf.{scalars_of}
-use Rattle.text_forms.specs.Gives.{Fails}
+use Rattle.parity_program.specs.Replies.{IsVerdictReply}
+use Rattle.parity_program.specs.Replies.Input.{answered}
+use Rattle.parity_program.specs.Shown.{answered_behind, shown}
+use Rattle.parity_text.proofs.Limits.{answer_within}
+use Rattle.parity_text.specs.Shown.{answer_value}
+
+pub checked-requires : goal.checked-requires
+checked-requires g c = answer_within g.F.Field.scalars c.args.problem.now _ _ _ _ c.in_ok-answer.ensures.gives
 
 pub returns-in-Ok-clause-replies : goal.returns-in-Ok-clause-replies
-returns-in-Ok-clause-replies c =
-    let q = order_of c.in-Ok.name in
-    let more = c.read_head.new.lexer.ahead in
-    replies_behind c.args.bytes.now q more c.check_named.result
-    (ap₂ (λ x y. head (length (lines x)) y) (sym c.new-lexer.ensures.bytes) (sym c.new-lexer.ensures.ahead) ∙ c.in-Ok.ensures.gives)
-    (subst (λ x. RepliesOver (scalars_of q) (answered_over q (length (lines x)) more) c.check_named.result) (c.in-Ok.ensures.bytes ∙ c.new-lexer.ensures.bytes) c.check_named.ensures.replies)
-
-pub returns-in-Err-clause-replies : goal.returns-in-Err-clause-replies
-returns-in-Err-clause-replies c =
-    head_fails c.args.bytes.now c.in-Err.refusal
-    (subst (Fails c.in-Err.refusal) (ap₂ (λ x y. head (length (lines x)) y) c.new-lexer.ensures.bytes c.new-lexer.ensures.ahead) c.in-Err.ensures.gives)
+unfolding answered_behind
+returns-in-Ok-clause-replies g c =
+    let p = c.args.problem.now in
+    let a = answer_value c.in_ok-answer.answer in
+    let ended = rw c.in_ok-answer.ensures.bytes at c.in_ok-read_end.ensures.gives in (
+      answered g.F.Field.scalars.order p a,
+      c.read_end.new.lexer.ahead,
+      rw (c.in_ok-answer.ensures.gives, ended) refl,
+      subst (λ S. IsVerdictReply S p a (shown c.in-Ok.reply)) c.requires c.in-Ok.ensures,
+    )

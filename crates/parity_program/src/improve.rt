@@ -1,0 +1,53 @@
+//! The command `improve`.
+
+ghost use Rattle.std.specs.Prelude.{◌≡◌, ◌<◌, All, IfErr, IfOk, length};
+ghost use Rattle.line_lexer.specs.Lines.{lines as text_lines};
+ghost use Rattle.parity_program.specs.Replies.{IsImprovementReply};
+ghost use Rattle.parity_program.specs.Shown.{chosen_behind, RepliesOver, shown};
+ghost use Rattle.small_fields.specs.ScalarsOf.{scalars_of};
+ghost use Rattle.text_forms.specs.Gives.{IsOfText};
+
+use crate::reply::{Reply, relation_reply, step_reply};
+use field_core::Field;
+use line_lexer::{Lexer, TextRefusal};
+use matching_state::{Matched, Start};
+use parity_lines::{LineSet, Problem};
+use parity_text::{read_end, read_set};
+use std::alloc::{AllocError, Global};
+
+/// The set that one step makes of a set of lines, that there is none, or a relation of its vectors.
+fn improved<F: Field>(
+    alloc: Global,
+    problem: &Problem<F>,
+    set: &LineSet,
+) -> Result<Reply, AllocError>
+    requires { All (λ m. m < length problem.now.lines) set.now }
+    ensures { IfOk result (λ reply. IsImprovementReply F.scalars problem.now set.now (shown reply)) }
+{
+    match Matched::start(alloc, problem, set)? {
+        Start::Ready(matched) => {
+            let step = matched.direct_step()?;
+            step_reply(alloc, step)
+        }
+        Start::Relation(relation) => relation_reply(alloc, &relation),
+    }
+}
+
+/// The reply behind the problem: to a choice of its lines, up to the end of the input.
+#[tactic(auto, unfolding(crate::specs::Shown::chosen_behind))]
+pub fn improve<F: Field>(
+    alloc: Global,
+    lexer: &mut Lexer<'_>,
+    problem: &Problem<F>,
+) -> Result<Reply, TextRefusal>
+    requires { F.scalars ≡ scalars_of F.scalars.order }
+    ensures replies { RepliesOver (chosen_behind F.scalars.order problem.now (length (text_lines lexer.old.bytes)) lexer.old.ahead) result }
+    ensures kind { IfErr result IsOfText }
+{
+    let set = read_set(alloc, lexer, problem.len())?;
+    read_end(lexer)?;
+    match improved(alloc, problem, &set) {
+        Ok(reply) => Ok(reply),
+        Err(_) => Err(TextRefusal::OutOfMemory),
+    }
+}
