@@ -5,6 +5,10 @@
 //! M (`specs/Places.antt`), and [`Matched::direct_step`] an independent set that is M with a line more, or with two
 //! lines in the place of one, exactly where there is one (`specs/Steps.antt`). `specs/Overlaps.antt` says what an
 //! overlap is. For the notions: Lovász and Plummer, Matching Theory, chapter 11.
+//!
+//! The mathematics is that of `parity_theory`, over any space; `proofs/Ties.antt` takes lists of numbers there.
+//! `proofs/Findings.antt` has the proof of a place, `proofs/DirectStep.antt` that of a step, `proofs/Tips.antt`
+//! and `proofs/OneStep.antt` have the laws.
 #![tactic(auto)]
 
 mod exposure;
