@@ -3,7 +3,7 @@ pub mod Residues
 mod Ratios
 mod FoundSupports
 mod Findings
-mod Tips
+pub mod Tips
 pub mod Products
 pub mod PairSearch
 pub mod StepSets
