@@ -1,0 +1,4 @@
+pub mod SpansOfLines
+pub mod SwappedSets
+pub mod NoRelation
+pub mod GrownByRows
