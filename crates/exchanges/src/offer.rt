@@ -1,13 +1,13 @@
 //! What the lines of a target offer: a line that is free, or an exchange.
 
-ghost use Rattle.std.specs.Prelude.{◌≡◌, ◌<◌, ◌++◌, ℕ, All, IfOk, MatchOption, length};
+ghost use Rattle.std.specs.Prelude.{◌≡◌, ◌<◌, ◌++◌, ℕ, All, IfOk, MatchOption, length, map};
 ghost use Rattle.std.specs.List.{Contains};
 ghost use Rattle.linear_algebra.specs.Spans.{InSpan};
 ghost use Rattle.matching_state.specs.Places.{IsExposed, IsOuter, IsTip, rank_beside};
 ghost use Rattle.parity_lines.specs.LineSets.{IsIndependentSet};
 ghost use Rattle.parity_lines.specs.Problems.{IsProblem, vectors_at};
 ghost use Rattle.exchanges.specs.Exchanges.{IsSettled};
-ghost use Rattle.exchanges.specs.Offers.{IsOffer, OffersNothing};
+ghost use Rattle.exchanges.specs.Offers.{IsOffer, OffersNothing, TellsLineOut};
 
 use crate::span::basis_with;
 use echelon::Echelon;
@@ -38,6 +38,22 @@ fn first_outside(lines: &LineSet, target: &LineSet) -> Option<usize>
     None
 }
 
+/// The first line of an exposed line's support that is none of the target, where the basis doesn't span its outer.
+fn line_out<F: Field>(
+    basis: &Echelon<F>,
+    target: &LineSet,
+    outer: &[F],
+    support: &LineSet,
+) -> Result<Option<usize>, AllocError>
+    requires { length outer.now ≡ basis.now.width }
+    ensures { IfOk result (TellsLineOut F.scalars basis.now.width basis.now.rows target.now (map F.number outer.now) support.now) }
+{
+    match basis.coefficients(outer)? {
+        Some(_) => Ok(None),
+        None => Ok(first_outside(support, target)),
+    }
+}
+
 /// What a line of the target offers, where `basis` is to leave it unspanned.
 fn offer_of<F: Field>(
     state: &Matched<'_, F>,
@@ -48,7 +64,7 @@ fn offer_of<F: Field>(
     requires within { line < length state.now.problem.lines }
     requires in_target { Contains target.now line }
     requires width { basis.now.width ≡ state.now.problem.dimension }
-    requires spans { All (InSpan F.scalars basis.now.width basis.now.rows) (vectors_at state.now.problem state.now.set) }
+    requires spans { All (InSpan F.scalars state.now.problem.dimension basis.now.rows) (vectors_at state.now.problem state.now.set) }
     ensures { IfOk result (λ found. MatchOption found
         (OffersNothing F.scalars state.now.problem basis.now.rows target.now state.now.set line)
         (IsOffer F.scalars state.now.problem basis.now.rows target.now state.now.set)) }
@@ -61,10 +77,7 @@ fn offer_of<F: Field>(
         Place::Inside => Ok(None),
         Place::Single { .. } => Ok(None),
         Place::Exposed { outer, support, .. } => {
-            if basis.coefficients(outer.as_slice())?.is_some() {
-                return Ok(None);
-            }
-            match first_outside(&support, target) {
+            match line_out(basis, target, outer.as_slice(), &support)? {
                 Some(out) => Ok(Some(Offer::Exchange { out, into: line })),
                 None => Ok(None),
             }
@@ -80,15 +93,14 @@ fn offer_along<F: Field>(
 ) -> Result<Option<Offer>, AllocError>
     requires within { All (λ m. m < length state.now.problem.lines) target.now }
     requires width { basis.now.width ≡ state.now.problem.dimension }
-    requires spans { All (InSpan F.scalars basis.now.width basis.now.rows) (vectors_at state.now.problem state.now.set) }
+    requires spans { All (InSpan F.scalars state.now.problem.dimension basis.now.rows) (vectors_at state.now.problem state.now.set) }
     ensures { IfOk result (λ found. MatchOption found
         ((l : ℕ) → Contains target.now l → OffersNothing F.scalars state.now.problem basis.now.rows target.now state.now.set l)
         (IsOffer F.scalars state.now.problem basis.now.rows target.now state.now.set)) }
 {
     for i in 0..target.len() {
-        let found = offer_of(state, basis, target, target.at(i))?;
-        if found.is_some() {
-            return Ok(found);
+        if let Some(offer) = offer_of(state, basis, target, target.at(i))? {
+            return Ok(Some(offer));
         }
     }
     Ok(None)
@@ -107,6 +119,8 @@ pub fn first_offer<F: Field>(
         (IsSettled F.scalars state.now.problem keep.now.rows target.now state.now.set)
         (IsOffer F.scalars state.now.problem (vectors_at state.now.problem state.now.set ++ keep.now.rows) target.now state.now.set)) }
 {
+    let (problem, _set) = (state.problem(), state.set());
+    let (_lines, _kept) = (problem.len(), keep.len());
     let basis = basis_with(state, keep)?;
     offer_along(state, &basis, target)
 }

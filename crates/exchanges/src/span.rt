@@ -33,8 +33,9 @@ pub fn basis_with<F: Field>(
     requires { keep.now.width ≡ state.now.problem.dimension }
     ensures { IfOk result (HasSpan F.scalars state.now.problem.dimension (vectors_at state.now.problem state.now.set ++ keep.now.rows)) }
 {
-    let (_lines, _kept) = (state.problem().len(), keep.len());
-    match basis_of_lines(state.alloc(), state.problem(), state.set())? {
+    let (problem, set) = (state.problem(), state.set());
+    let (_lines, _kept) = (problem.len(), keep.len());
+    match basis_of_lines(state.alloc(), problem, set)? {
         LineBasis::Basis(mut basis) => {
             insert_rows(&mut basis, keep)?;
             Ok(basis)

@@ -1,0 +1,1 @@
+use Rattle.exchanges.proofs.step.step_toward.Goals as goal
