@@ -6,3 +6,4 @@ pub mod LinesPassed
 pub mod OffersOfLines
 pub mod SameSpan
 pub mod LargerSets
+pub mod ReachedSets

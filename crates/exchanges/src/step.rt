@@ -5,6 +5,7 @@ ghost use Rattle.exchanges.specs.Exchanges.{IsLonger};
 ghost use Rattle.exchanges.specs.Steps.{TellsStep};
 ghost use Rattle.matching_state.specs.Missing.{Misses};
 ghost use Rattle.matching_state.specs.Places.{rank_beside};
+ghost use Rattle.parity_lines.specs.LineSets.{IsIndependentSet};
 
 use crate::offer::{Offer, first_offer};
 use crate::swap;
@@ -46,6 +47,7 @@ pub fn step_toward<F: Field>(
     requires width { keep.now.width ≡ state.old.problem.dimension }
     requires missed { Misses F.scalars state.old.problem state.old.set keep.now.rows }
     ensures problem { state.new.problem ≡ state.old.problem }
+    ensures independent { IsIndependentSet F.scalars state.new.problem state.new.set }
     ensures missed { Misses F.scalars state.new.problem state.new.set keep.now.rows }
     ensures step { IfOk result (TellsStep F.scalars state.old.problem keep.now.rows target.now state.old.set state.new.set) }
     ensures err { OnErr result (state.new ≡ state.old) }

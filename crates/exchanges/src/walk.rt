@@ -37,6 +37,8 @@ pub fn move_toward<F: Field>(
     ensures as_long { length state.new.set ≡ length state.old.set }
     ensures moved { IfOk result (TellsMoved F.scalars state.old.problem keep.now.rows target.now state.new.set) }
 {
+    let (problem, _set) = (state.problem(), state.set());
+    let (_lines, _kept, _aims) = (problem.len(), keep.len(), target.len());
     loop {
         match step_toward(state, target, keep)? {
             Stepped::Moved { .. } => {}
