@@ -3,23 +3,23 @@ use Rattle.std.proofs.Common.{◌≡◌, ◌≢◌, ℕ, ◌<◌, ◌⊎◌, inl
 use Rattle.std.specs.List.{filter}
 use Rattle.std.proofs.lemmas.Bool.{cases_Bool, true≢false}
 use Rattle.class_theory.proofs.Classes.{class_lines, of_label_in, of_label_only, of_label}
+use Rattle.class_theory.proofs.Components.{passes_or_stray}
+use Rattle.class_theory.proofs.Families.{IsFamily, progress_grows, separating}
 use Rattle.class_theory.proofs.Labels.{AreExact, label}
 use Rattle.class_theory.proofs.LinesBelow.{IsListing, IsLineSet}
 use Rattle.class_theory.proofs.Separations.{Progress, Parted, wide_of_parted, spread}
-use Rattle.class_theory.proofs.Components.{passes_or_stray}
-use Rattle.parity_theory.proofs.Widths.{IsWide}
+use Rattle.class_theory.proofs.TurnEnds.{ends_of, TurnEnd}
 use Rattle.parity_theory.proofs.Entries.{at_in}
 use Rattle.parity_theory.proofs.Exposure.{Exposed, exposed_line_independent}
 use Rattle.parity_theory.proofs.LineSets.{line_independent}
 use Rattle.parity_theory.proofs.Lines.{vectors}
 use Rattle.parity_theory.proofs.Positions.{filter_only, sub_filter}
 use Rattle.parity_theory.proofs.Supports.{support_in_each, InSupport}
+use Rattle.parity_theory.proofs.Widths.{IsWide}
 use Rattle.vector_spaces.proofs.Independence.{IsIndependent}
 use Rattle.vector_spaces.proofs.Members.{In}
 use Rattle.vector_spaces.proofs.Space.{Field, Space}
 use Rattle.vector_spaces.proofs.Sublists.{sub_in}
-use Rattle.class_theory.proofs.TurnEnds.{ends_of, TurnEnd}
-use Rattle.class_theory.proofs.Families.{IsFamily, progress_grows, separating}
 
 -- a family with its table, whose labels are exact, and a list of the lines below n
 pub record ExactFamily {K V : Type 0} {f : Field K} (s : Space f V) (line : ℕ → V × V) (n k : ℕ) : Type 0 where
