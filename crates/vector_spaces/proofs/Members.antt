@@ -23,6 +23,10 @@ In-append x [] ws h = inr h
 In-append x (v ∷ vs) ws (inl e) = inl (inl e)
 In-append x (v ∷ vs) ws (inr h) = elim (In-append x vs ws h) [ inl k ↦ inl (inr k) | inr k ↦ inr k ]
 
+-- in the end of a list, if not in its front
+pub in_end : {V : Type 0} (x : V) (vs ws : List V) → In x (vs ++ ws) → ¬ (In x vs) → In x ws
+in_end x vs ws i n = elim (In-append x vs ws i) [ inl j ↦ absurd (n j) | inr j ↦ j ]
+
 pub In-all : {X : Type 0} (P : X → Type 0) (xs : List X) → All P xs → (x : X) → In x xs → P x
 In-all P [] h x i = absurd i
 In-all P (y ∷ xs) h x (inl e) = subst P (sym e) (All-head P y xs h)
@@ -54,6 +58,16 @@ In_flat_map-from f (z ∷ xs) y h = go (In-append y (f z) (flat_map f xs) h) (In
     go : In y (f z) ⊎ In y (flat_map f xs) → (In y (flat_map f xs) → (x : _) × In x xs × In y (f x)) → (x : _) × In x (z ∷ xs) × In y (f x)
     go (inl i) ih = (z, inl refl, i)
     go (inr i) ih = let r = ih i in (r.0, inr r.1, r.2)
+
+-- P of each member, or Q by one of them
+pub each_or : {X : Type 0} {P : X → Type 0} {Q : Type 0} (xs : List X) → ((x : X) → In x xs → P x ⊎ Q) → ((x : X) → In x xs → P x) ⊎ Q
+each_or [] h = inl (λ x i. absurd i)
+each_or {X} {P} {Q} (y ∷ xs) h = go (h y (inl refl)) (each_or xs (λ x i. h x (inr i)))
+  where
+    go : P y ⊎ Q → ((x : X) → In x xs → P x) ⊎ Q → ((x : X) → In x (y ∷ xs) → P x) ⊎ Q
+    go (inr q) r = inr q
+    go (inl p) (inr q) = inr q
+    go (inl p) (inl r) = inl (λ x i. elim i [ inl e ↦ subst P (sym e) p | inr j ↦ r x j ])
 
 -- the same by an index
 pub contains-In : {X : Type 0} (xs : List X) (x : X) → In x xs → Contains xs x

@@ -1,8 +1,8 @@
 -- Lists of vectors within the span of others.
-use Rattle.std.proofs.Common.{inl, inr, List, [], ◌∷◌, ◌++◌, refl, sym, subst}
-use Rattle.vector_spaces.proofs.Members.{In, In-append, In-append_left, In-append_right}
+use Rattle.std.proofs.Common.{◌⊎◌, inl, inr, List, [], ◌∷◌, ◌++◌, refl, sym, subst}
+use Rattle.vector_spaces.proofs.Members.{In, each_or, In-append, In-append_left, In-append_right}
 use Rattle.vector_spaces.proofs.Space.{Field, Space}
-use Rattle.vector_spaces.proofs.Span.{InSpan, span_member, span_more, span_through}
+use Rattle.vector_spaces.proofs.Span.{InSpan, span_member, span_more, span_through, decide_span}
 
 -- each of us is in the span of vs
 pub record Within {K V : Type 0} {f : Field K} (s : Space f V) (us vs : List V) : Type 0 where
@@ -52,5 +52,28 @@ module _ {K V : Type 0} {f : Field K} (s : Space f V) where
   pub within_right : (us vs ws : List V) → Within s us ws → Within s us (vs ++ ws)
   within_right us vs ws h = record { each = λ x i. right_in vs ws x (h.each x i) }
 
+  -- all of vs, or the first outside the span of ws
+  pub first_outside : (vs ws : List V) → Within s vs ws ⊎ ((a : V) × In a vs × ¬ (InSpan s ws a))
+  first_outside vs ws = elim (each_or vs (λ v i. elim (decide_span f s ws v) as (λ _. InSpan s ws v ⊎
+      ((a : V) × In a vs × ¬ (InSpan s ws a))) [ yes c ↦ inl c | no n ↦ inr (v, i, n) ])) [
+        | inl h ↦ inl (record { each = h })
+        | inr r ↦ inr r
+      ]
+
+  pub decide_within : (us vs : List V) → Dec (Within s us vs)
+  decide_within us vs = elim (first_outside us vs) [ inl h ↦ yes h | inr r ↦ no (λ w. r.2 (w.each r.0 r.1)) ]
+
 -- places a list within the span of an append that holds it
-pub ruleset placing = (within_append, within_cons, within_nil, within_more, within_left, within_right, head_in, left_in, right_in, span_more, within_self)
+pub ruleset placing = (
+  within_append,
+  within_cons,
+  within_nil,
+  within_more,
+  within_left,
+  within_right,
+  head_in,
+  left_in,
+  right_in,
+  span_more,
+  within_self,
+)
