@@ -7,3 +7,7 @@ pub mod OffersOfLines
 pub mod SameSpan
 pub mod LargerSets
 pub mod ReachedSets
+pub mod SettledSets
+pub mod Distances
+pub mod LinesReached
+pub mod TransitiveMissing

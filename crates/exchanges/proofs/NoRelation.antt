@@ -1,5 +1,5 @@
 -- Independent vectors have no relation.
-use Rattle.std.proofs.Common.{◌≡◌, ℕ, List, length, replicate, get_or, sym, ap, ◌∙◌, subst, ◌<◌}
+use Rattle.std.proofs.Common.{ℕ, List, length, get_or, sym, ap, ◌∙◌, subst, ◌<◌}
 use Rattle.std.proofs.lemmas.List.{get_or-replicate}
 use Rattle.linear_algebra.specs.Scalars.{Scalars, IsField}
 use Rattle.linear_algebra.specs.Spans.{IsIndependent}

@@ -9,7 +9,7 @@ use Rattle.linear_algebra.specs.Spans.{InSpan}
 use Rattle.linear_algebra.specs.Vectors.{AreVectors}
 use Rattle.linear_algebra.proofs.SpanLaws.{span_member}
 use Rattle.exchanges.proofs.SpansOfLines.{set_with_vectors}
-use Rattle.exchanges.specs.Exchanges.{AreSpanned, CanExchange, IsSettled}
+use Rattle.exchanges.specs.Exchanges.{CanExchange, IsSettled}
 use Rattle.exchanges.specs.Offers.{IsOffer, OffersNothing}
 use Rattle.exchanges.specs.Spans.{HasSpan}
 use Rattle.exchanges.specs.declared.offer.Offer.{Offer}

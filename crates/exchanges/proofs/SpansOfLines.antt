@@ -2,15 +2,12 @@
 use Rattle.std.proofs.Common.{◌≡◌, ℕ, ◌<◌, List, ◌++◌, length, sym, ap, ◌∙◌, subst, All}
 use Rattle.std.proofs.lemmas.List.{map-append}
 use Rattle.std.proofs.lemmas.List.Elements.{All-append}
-use Rattle.vector_spaces.proofs.Members.{In, In-map, In-all, all-In}
-use Rattle.vector_spaces.proofs.Space.{Space}
-use Rattle.vector_spaces.proofs.Tuples.{Tuple}
+use Rattle.vector_spaces.proofs.Members.{In-map, In-all, all-In}
 use Rattle.vector_spaces.proofs.Within.{Within}
 use Rattle.linear_algebra.specs.Scalars.{Scalars, IsField}
 use Rattle.linear_algebra.specs.Spans.{InSpan}
 use Rattle.linear_algebra.specs.Vectors.{IsVector, AreVectors}
 use Rattle.linear_algebra.proofs.Coordinates.{tuple, space}
-use Rattle.linear_algebra.proofs.Elements.{Element, scalar_field}
 use Rattle.linear_algebra.proofs.SpanLaws.{within_tuples}
 use Rattle.linear_algebra.proofs.Transfer.{tuples_of, span_from_tuples}
 use Rattle.exchanges.specs.Exchanges.{AreSpanned}

@@ -1,6 +1,6 @@
 -- Exchanges toward a target, the sets that they reach, and sets that have settled.
-use Rattle.std.specs.Prelude.{◌≡◌, ◌≢◌, ℕ, suc, List, [], ◌∷◌, ◌++◌, length, All}
-use Rattle.std.specs.List.{Contains}
+use Rattle.std.specs.Prelude.{◌≡◌, ◌≢◌, ◌==◌, ℕ, suc, List, [], ◌∷◌, ◌++◌, length, not, All, count_by}
+use Rattle.std.specs.List.{Contains, list_any}
 use Rattle.linear_algebra.specs.Scalars.{Scalars}
 use Rattle.linear_algebra.specs.Spans.{InSpan}
 use Rattle.matching_state.specs.Overlaps.{InSupport}
@@ -41,3 +41,7 @@ pub record IsSettled (S : Scalars) (p : ParityProblem) (keep : List (List ℕ)) 
 pub record IsLonger (S : Scalars) (p : ParityProblem) (M L : List ℕ) : Type 0 where
   pub independent : IsIndependentSet S p L
   pub longer : length L ≡ suc (length M)
+
+-- how many lines of the target T are none of M
+abbrev pub distance : List ℕ → List ℕ → ℕ
+distance M T = count_by (λ l. not (list_any (λ m. l == m) M)) T

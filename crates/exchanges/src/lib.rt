@@ -15,7 +15,10 @@ mod step;
 mod swapping;
 mod walk;
 
-
+pub use laws::{
+    exchanges_come_nearer, missing_is_transitive, sets_that_exchanges_reach,
+    settled_sets_span_independent_targets,
+};
 pub use step::{Stepped, step_toward};
 pub use swapping::swap;
 pub use walk::{Moved, move_toward};

@@ -14,12 +14,7 @@ use parity_lines::LineSet;
 use std::alloc::{AllocError, Global};
 
 /// The set with `into` in the place of `out`.
-fn swapped(
-    alloc: Global,
-    set: &LineSet,
-    out: usize,
-    into: usize,
-) -> Result<LineSet, AllocError>
+fn swapped(alloc: Global, set: &LineSet, out: usize, into: usize) -> Result<LineSet, AllocError>
     requires gone { Contains set.now out }
     requires new { ¬ (Contains set.now into) }
     ensures increasing { IfOk result IsStrictlyIncreasing }
@@ -31,11 +26,7 @@ fn swapped(
 
 /// Puts the exposed line `into` in the place of `out`, a line of its support. After want of memory the state is
 /// unchanged.
-pub fn swap<F: Field>(
-    state: &mut Matched<'_, F>,
-    out: usize,
-    into: usize,
-) -> Result<(), AllocError>
+pub fn swap<F: Field>(state: &mut Matched<'_, F>, out: usize, into: usize) -> Result<(), AllocError>
     requires within { into < length state.old.problem.lines }
     requires exposed { IsExposed F.scalars state.old.problem state.old.set into }
     requires support { InSupport F.scalars state.old.problem state.old.set into out }

@@ -4,6 +4,7 @@ mod Ratios
 mod FoundSupports
 mod Findings
 pub mod Tips
+pub mod TipsOfTuples
 pub mod Products
 pub mod PairSearch
 pub mod StepSets

@@ -1,12 +1,9 @@
-use Rattle.std.proofs.Common.{◌++◌, ◌≡◌, ℕ, MatchOption, None, Some, Option, sym, subst}
-use Rattle.std.specs.List.{Contains}
+use Rattle.std.proofs.Common.{Option, subst}
 use Rattle.std.proofs.lemmas.Result.{IfOk-weaker}
 use Rattle.linear_algebra.specs.Vectors.{AreVectors}
 use Rattle.exchanges.proofs.SameSpan.{first_of_span, set_spanned}
-use Rattle.exchanges.specs.Exchanges.{IsSettled}
-use Rattle.exchanges.specs.Offers.{IsOffer, OffersNothing}
 use Rattle.exchanges.specs.declared.offer.Offer.{Offer}
-use Rattle.parity_lines.specs.Problems.{IsProblem, vectors_at}
+use Rattle.parity_lines.specs.Problems.{IsProblem}
 use Rattle.exchanges.proofs.offer.first_offer.Goals as goal
 
 pub offer_along-requires-clause-spans : goal.offer_along-requires-clause-spans

@@ -1,4 +1,4 @@
-use Rattle.std.proofs.Common.{None, Some, ◌≡◌, ℕ, List, length, map, inl, inr, sym, ap, ◌∙◌, subst}
+use Rattle.std.proofs.Common.{None, Some, map, inl, inr, sym, ◌∙◌, subst}
 use Rattle.linear_algebra.specs.Vectors.{AreVectors}
 use Rattle.exchanges.proofs.OffersOfLines.{spanned_offers_nothing, closed_offers_nothing, exchange_found}
 use Rattle.exchanges.specs.Offers.{OffersNothing, TellsLineOut}

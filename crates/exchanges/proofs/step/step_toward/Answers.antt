@@ -1,4 +1,4 @@
-use Rattle.std.proofs.Common.{◌++◌, MatchOption, ap, sym, ◌∙◌, subst}
+use Rattle.std.proofs.Common.{◌++◌, MatchOption, sym, subst}
 use Rattle.linear_algebra.specs.Vectors.{AreVectors}
 use Rattle.matching_state.specs.Missing.{Misses}
 use Rattle.parity_lines.specs.LineSets.{IsIndependentSet}
@@ -6,7 +6,6 @@ use Rattle.parity_lines.specs.Problems.{IsProblem, vectors_at}
 use Rattle.exchanges.proofs.ReachedSets.{kept_by_exchange}
 use Rattle.exchanges.specs.Exchanges.{IsSettled}
 use Rattle.exchanges.specs.Offers.{IsOffer}
-use Rattle.exchanges.specs.declared.offer.Offer.TheVariants.{Exchange}
 use Rattle.exchanges.proofs.step.step_toward.Goals as goal
 
 pub returns-in_ok-swap-in-Some-Exchange-clause-missed : goal.returns-in_ok-swap-in-Some-Exchange-clause-missed
@@ -26,4 +25,4 @@ returns-in_ok-swap-in-Some-Exchange-clause-missed g c =
     let e = c.in_ok-swap-in-Some-Exchange.ensures in
     let after = subst (λ q. IsIndependentSet S q N) e.problem e.independent in
     subst (λ q. Misses S q N keep) (sym e.problem)
-    (kept_by_exchange S g.met.F.Field.lawful p P keep k T c.requires.within M N out into c.set-set.ensures.independent can e.ok c.requires.missed after.line_set).missed
+    (kept_by_exchange S g.met.F.Field.lawful p P keep T c.requires.within M N out into c.set-set.ensures.independent can e.ok k c.requires.missed after.line_set).missed

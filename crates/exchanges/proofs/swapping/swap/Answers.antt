@@ -1,4 +1,4 @@
-use Rattle.std.proofs.Common.{◌<◌, ℕ, List, length, All, subst, sym}
+use Rattle.std.proofs.Common.{◌<◌, length, All, subst, sym}
 use Rattle.std.specs.List.{Contains}
 use Rattle.matching_state.specs.States.{TellsStart}
 use Rattle.matching_state.specs.Steps.{IsSwap}
