@@ -16,4 +16,5 @@ module _ (S : Scalars) (p : ParityProblem) (keep : List (List ℕ)) (T M : List 
   -- a line of both stays
   pub lines_stay : (N : List ℕ) → IsReached S p keep T M N → Contains M l → Contains T l → Contains N l
   lines_stay N by_none c t = c
-  lines_stay N (by_one_more K L out into r e w) c t = (e.swap.lines l).1 (inl (lines_stay K r c t, λ q. e.can.out_of_target (subst (λ m. Contains T m) q t)))
+  lines_stay N (by_one_more K L out into r e w) c t = (e.swap.lines l).1
+      (inl (lines_stay K r c t, λ q. e.can.out_of_target (subst (λ m. Contains T m) q t)))

@@ -26,7 +26,8 @@ use Rattle.parity_theory.proofs.Places.{free_of_independent}
 use Rattle.parity_theory.proofs.Settling.{IsSettled as IsSettled_of, settled_by_places, settled_at_independent_target}
 use Rattle.parity_theory.proofs.Supports.{SupportIn, InSupport, support_in_or_not}
 
-module _ (S : Scalars) (F : IsField S) (p : ParityProblem) (P : IsProblem S p) (M : List ℕ) (i : IsIndependentSet S p M) (keep : List (List ℕ)) (k : AreVectors S p.dimension keep) (m : Misses S p M keep)
+module _ (S : Scalars) (F : IsField S) (p : ParityProblem) (P : IsProblem S p) (M : List ℕ) (i : IsIndependentSet S p M)
+    (keep : List (List ℕ)) (k : AreVectors S p.dimension keep) (m : Misses S p M keep)
     (T : List ℕ) (t : IsIndependentSet S p T) (settled : IsSettled S p keep T M) where
   abbrev sp : Space (scalar_field S F) (Tuple (Element S) p.dimension)
   sp = space S F p.dimension
@@ -47,10 +48,14 @@ module _ (S : Scalars) (F : IsField S) (p : ParityProblem) (P : IsProblem S p) (
   within l j = In-all (λ n. n < length p.lines) T t.line_set.within l j
 
   -- an exposed line of the target is spanned, or has its support in the target
-  closed : (l : ℕ) → In l T → (tip outer : Tuple (Element S) p.dimension) (cs : List (Element S × Element S)) → Exposed sp line M l tip outer cs → Within sp (vectors line (l ∷ [])) (vectors line M ++ kept) ⊎ SupportIn (scalar_field S F) (λ n. In n T) cs M
-  closed l j tip outer cs x = go (decide_within sp (vectors line (l ∷ [])) (vectors line M ++ kept)) (support_in_or_not (scalar_field S F) (λ n. In n T) (λ n. decide_in n T) cs M)
+  closed : (l : ℕ) → In l T → (tip outer : Tuple (Element S) p.dimension) (cs : List (Element S × Element S)) →
+      Exposed sp line M l tip outer cs → Within sp (vectors line (l ∷ [])) (vectors line M ++ kept) ⊎
+      SupportIn (scalar_field S F) (λ n. In n T) cs M
+  closed l j tip outer cs x = go (decide_within sp (vectors line (l ∷ [])) (vectors line M ++ kept))
+      (support_in_or_not (scalar_field S F) (λ n. In n T) (λ n. decide_in n T) cs M)
     where
-      go : Dec (Within sp (vectors line (l ∷ [])) (vectors line M ++ kept)) → SupportIn (scalar_field S F) (λ n. In n T) cs M ⊎ ((n : ℕ) × InSupport (scalar_field S F) n cs M × ¬ (In n T)) →
+      go : Dec (Within sp (vectors line (l ∷ [])) (vectors line M ++ kept)) →
+          SupportIn (scalar_field S F) (λ n. In n T) cs M ⊎ ((n : ℕ) × InSupport (scalar_field S F) n cs M × ¬ (In n T)) →
           Within sp (vectors line (l ∷ [])) (vectors line M ++ kept) ⊎ SupportIn (scalar_field S F) (λ n. In n T) cs M
       go (yes w) s = inl w
       go (no n) (inl h) = inr h
@@ -68,4 +73,5 @@ module _ (S : Scalars) (F : IsField S) (p : ParityProblem) (P : IsProblem S p) (
 
   -- so the set spans the target, together with what is kept
   pub target_spanned : AreSpanned S p (vectors_at p M ++ keep) T
-  target_spanned = spanned_of_within S F p P M keep i.line_set.within k T t.line_set.within (settled_at_independent_target sp line M kept T target settled_tuples)
+  target_spanned = spanned_of_within S F p P M keep i.line_set.within k T t.line_set.within
+      (settled_at_independent_target sp line M kept T target settled_tuples)

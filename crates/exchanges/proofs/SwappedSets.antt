@@ -32,7 +32,8 @@ use Rattle.parity_theory.proofs.Lines.{vectors}
 use Rattle.parity_theory.proofs.Supports.{InSupport as InSupport_of}
 
 -- the set without the one line, and then with the other
-pub swap_made : (M K N : List ℕ) (out into : ℕ) → Contains M out → ¬ (Contains M into) → ((l : ℕ) → Contains K l ↔ (Contains M l × (l ≢ out))) → ((l : ℕ) → Contains N l ↔ (Contains K l ⊎ (l ≡ into))) → IsSwap M out into N
+pub swap_made : (M K N : List ℕ) (out into : ℕ) → Contains M out → ¬ (Contains M into) →
+    ((l : ℕ) → Contains K l ↔ (Contains M l × (l ≢ out))) → ((l : ℕ) → Contains N l ↔ (Contains K l ⊎ (l ≡ into))) → IsSwap M out into N
 swap_made M K N out into g n a b = record {
   gone = g;
   new = n;
@@ -42,7 +43,8 @@ swap_made M K N out into g n a b = record {
   );
 }
 
-module _ (S : Scalars) (F : IsField S) (p : ParityProblem) (P : IsProblem S p) (M : List ℕ) (i : IsIndependentSet S p M) (out into : ℕ) (h : into < length p.lines) (x : IsExposed S p M into) (k : InSupport S p M into out) where
+module _ (S : Scalars) (F : IsField S) (p : ParityProblem) (P : IsProblem S p) (M : List ℕ) (i : IsIndependentSet S p M) (out into : ℕ)
+    (h : into < length p.lines) (x : IsExposed S p M into) (k : InSupport S p M into out) where
   abbrev sp : Space (scalar_field S F) (Tuple (Element S) p.dimension)
   sp = space S F p.dimension
 
@@ -76,10 +78,12 @@ module _ (S : Scalars) (F : IsField S) (p : ParityProblem) (P : IsProblem S p) (
         (exchange_independent sp line M N out into _ _ _ exposed_here in_support_here (swap_of M N out into i.line_set.increasing l w))
 
     -- what is kept is missed as before
-    pub missed_after : (keep : List (List ℕ)) → AreVectors S p.dimension keep → Misses S p M keep → ¬ (AreSpanned S p (vectors_at p M ++ keep) (into ∷ [])) → IsLineSet p N → Misses S p N keep
+    pub missed_after : (keep : List (List ℕ)) → AreVectors S p.dimension keep → Misses S p M keep →
+        ¬ (AreSpanned S p (vectors_at p M ++ keep) (into ∷ [])) → IsLineSet p N → Misses S p N keep
     missed_after keep v m n l =
         let base = misses_to S F p P M keep i.line_set.within v m in
-        let outside : ¬ (Within sp (vectors line (into ∷ [])) (vectors line M ++ tuples_of S F p.dimension keep)) = λ w'. n (spanned_of_within S F p P M keep i.line_set.within v (into ∷ []) (one_line S F p P into h) w') in
+        let outside : ¬ (Within sp (vectors line (into ∷ [])) (vectors line M ++ tuples_of S F p.dimension keep)) =
+        λ w'. n (spanned_of_within S F p P M keep i.line_set.within v (into ∷ []) (one_line S F p P into h) w') in
         misses_from S F p P N keep l.within v
         (exchange_at sp line M N out into _ _ _ (tuples_of S F p.dimension keep) exposed_here in_support_here
         (outer_outside_keep sp line M into _ _ _ (tuples_of S F p.dimension keep) exposed_here base outside)

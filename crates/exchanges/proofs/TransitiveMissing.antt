@@ -14,10 +14,12 @@ use Rattle.parity_lines.specs.LineSets.{IsIndependentSet}
 use Rattle.parity_lines.specs.Problems.{ParityProblem, IsProblem}
 use Rattle.parity_theory.proofs.Transitivity.{transitivity_of_missing}
 
-module _ (S : Scalars) (F : IsField S) (p : ParityProblem) (P : IsProblem S p) (M N L q u w : List ℕ) (i : IsIndependentSet S p M) (j : IsIndependentSet S p N) (same : length M ≡ length N) (v : AreVectors S p.dimension (q ∷ u ∷ w ∷ []))
+module _ (S : Scalars) (F : IsField S) (p : ParityProblem) (P : IsProblem S p) (M N L q u w : List ℕ) (i : IsIndependentSet S p M)
+    (j : IsIndependentSet S p N) (same : length M ≡ length N) (v : AreVectors S p.dimension (q ∷ u ∷ w ∷ []))
     (m : Misses S p M (q ∷ [])) (n : Misses S p N (u ∷ w ∷ [])) (r : IsReached S p (q ∷ []) N M L) (s : IsSettled S p (q ∷ []) N L) where
   pair : (x y : List ℕ) → IsVector S p.dimension x → IsVector S p.dimension y → AreVectors S p.dimension (x ∷ y ∷ [])
-  pair x y a b = All-cons (IsVector S p.dimension) x (y ∷ []) a (All-cons (IsVector S p.dimension) y [] b (All-nil (IsVector S p.dimension)))
+  pair x y a b = All-cons (IsVector S p.dimension) x (y ∷ []) a
+      (All-cons (IsVector S p.dimension) y [] b (All-nil (IsVector S p.dimension)))
 
   first : IsVector S p.dimension q
   first = All-head (IsVector S p.dimension) q (u ∷ w ∷ []) v
@@ -40,8 +42,10 @@ module _ (S : Scalars) (F : IsField S) (p : ParityProblem) (P : IsProblem S p) (
   pub shared_out : Misses S p L (q ∷ u ∷ []) ⊎ Misses S p L (q ∷ w ∷ [])
   shared_out =
       let within = reached.independent.line_set.within in
-      elim (transitivity_of_missing (space S F p.dimension) (tuples_at S F p) L N (tuple S F p.dimension u) (tuple S F p.dimension q) (tuple S F p.dimension w) (reached.as_long ∙ same)
-      (misses_to S F p P L (q ∷ []) within alone reached.missed) (misses_to S F p P N (u ∷ w ∷ []) j.line_set.within others n) (settled_tuples S F p P L reached.independent (q ∷ []) alone reached.missed N j s)) [
+      elim (transitivity_of_missing (space S F p.dimension) (tuples_at S F p) L N (tuple S F p.dimension u) (tuple S F p.dimension q)
+      (tuple S F p.dimension w) (reached.as_long ∙ same)
+      (misses_to S F p P L (q ∷ []) within alone reached.missed) (misses_to S F p P N (u ∷ w ∷ []) j.line_set.within others n)
+      (settled_tuples S F p P L reached.independent (q ∷ []) alone reached.missed N j s)) [
         | inl a ↦ inl (misses_from S F p P L (q ∷ u ∷ []) within (pair q u first second) a)
         | inr b ↦ inr (misses_from S F p P L (q ∷ w ∷ []) within (pair q w first third) b)
       ]

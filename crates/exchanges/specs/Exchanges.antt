@@ -23,14 +23,16 @@ pub record CanExchange (S : Scalars) (p : ParityProblem) (vs : List (List ℕ)) 
   pub not_spanned : ¬ (AreSpanned S p vs (into ∷ []))
 
 -- N comes of M by such an exchange for a line that M's vectors and keep don't span
-pub record IsExchangeToward (S : Scalars) (p : ParityProblem) (keep : List (List ℕ)) (T M : List ℕ) (out into : ℕ) (N : List ℕ) : Type 0 where
+pub record IsExchangeToward (S : Scalars) (p : ParityProblem) (keep : List (List ℕ)) (T M : List ℕ) (out into : ℕ)
+    (N : List ℕ) : Type 0 where
   pub can : CanExchange S p (vectors_at p M ++ keep) T M out into
   pub swap : IsSwap M out into N
 
 -- the sets of lines that come of M by such exchanges, one after another
 pub data IsReached (S : Scalars) (p : ParityProblem) (keep : List (List ℕ)) (T M : List ℕ) : List ℕ → Type 0 where
   by_none : IsReached S p keep T M M
-  by_one_more : (N L : List ℕ) (out into : ℕ) → IsReached S p keep T M N → IsExchangeToward S p keep T N out into L → IsLineSet p L → IsReached S p keep T M L
+  by_one_more : (N L : List ℕ) (out into : ℕ) → IsReached S p keep T M N → IsExchangeToward S p keep T N out into L → IsLineSet p L →
+      IsReached S p keep T M L
 
 -- no line of T is free over M, and no such exchange is left
 pub record IsSettled (S : Scalars) (p : ParityProblem) (keep : List (List ℕ)) (T M : List ℕ) : Type 0 where

@@ -5,7 +5,6 @@ use Rattle.vector_spaces.proofs.Span.{InSpan as InSpan_of}
 use Rattle.vector_spaces.proofs.Tuples.{Tuple}
 use Rattle.linear_algebra.specs.Scalars.{Scalars, IsField}
 use Rattle.linear_algebra.specs.Spans.{InSpan}
-use Rattle.linear_algebra.specs.Vectors.{IsVector}
 use Rattle.linear_algebra.proofs.Coordinates.{tuple, space, list, list-vector, tuple-list}
 use Rattle.linear_algebra.proofs.Elements.{Element, scalar_field}
 use Rattle.linear_algebra.proofs.VectorLaws.{tuple-zero}
@@ -21,7 +20,8 @@ use Rattle.parity_theory.proofs.Lines.{vectors}
 use Rattle.parity_theory.proofs.Places.{exposed_of_tip}
 use Rattle.parity_theory.proofs.Supports.{InSupport as InSupport_of}
 
-module _ (S : Scalars) (F : IsField S) (p : ParityProblem) (P : IsProblem S p) (M : List ℕ) (i : IsIndependentSet S p M) (e : ℕ) (h : e < length p.lines) where
+module _ (S : Scalars) (F : IsField S) (p : ParityProblem) (P : IsProblem S p) (M : List ℕ) (i : IsIndependentSet S p M) (e : ℕ)
+    (h : e < length p.lines) where
   abbrev sp : Space (scalar_field S F) (Tuple (Element S) p.dimension)
   sp = space S F p.dimension
 
@@ -58,5 +58,6 @@ module _ (S : Scalars) (F : IsField S) (p : ParityProblem) (P : IsProblem S p) (
           numbers,
           in_set.coefficients,
           is_tip,
-          component_of_support S F p P M in_set.coefficients m (coordinates_vector S F p P M in_set.coefficients numbers in_set.combine) (same_support sp line M e tip outer cs x _ _ _ y m k),
+          component_of_support S F p P M in_set.coefficients m (coordinates_vector S F p P M in_set.coefficients numbers in_set.combine)
+              (same_support sp line M e tip outer cs x _ _ _ y m k),
         )

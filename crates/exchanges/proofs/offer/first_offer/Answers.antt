@@ -12,7 +12,8 @@ offer_along-requires-clause-spans g c =
     let p = c.args.state.now.problem in
     let keep = c.args.keep.now.rows in
     let P = subst (IsProblem S) c.problem-problem.ensures c.len-lines.ensures.problem in
-    set_spanned S g.met.F.Field.lawful p P c.args.state.now.set keep c.in_ok-basis.basis c.set-set.ensures.independent.line_set.within (subst (λ d. AreVectors S d keep) c.requires.width c.len-kept.ensures.vectors) c.in_ok-basis.ensures
+    set_spanned S g.met.F.Field.lawful p P c.args.state.now.set keep c.in_ok-basis.basis c.set-set.ensures.independent.line_set.within
+    (subst (λ d. AreVectors S d keep) c.requires.width c.len-kept.ensures.vectors) c.in_ok-basis.ensures
 
 pub returns : goal.returns
 returns g c =

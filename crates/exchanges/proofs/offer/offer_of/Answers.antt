@@ -29,8 +29,10 @@ returns-in-Some g c =
     let k = subst (λ d. AreVectors S d vs) c.requires.width c.rank-rank.ensures.vectors in
     let told = subst (λ d. TellsLineOut S d vs T c.in-Exposed.outer c.in-Exposed.support (Some c.in-Some.out)) c.requires.width
     (subst (λ w. TellsLineOut S c.args.basis.now.width vs T w c.in-Exposed.support (Some c.in-Some.out)) c.as_slice.ensures.value
-    (subst (TellsLineOut S c.args.basis.now.width vs T (map g.F.Field.number c.as_slice.result.now) c.in-Exposed.support) c.in-Some.is c.in_ok-out-in-Exposed.ensures)) in
-    exchange_found S g.met.F.Field.lawful p P M c.set-set.ensures.independent T c.args.line c.requires.within vs k place.0 c.in-Exposed.tip tip.0 c.in-Exposed.outer tip.1 place.1 c.in-Exposed.support tip.2
+    (subst (TellsLineOut S c.args.basis.now.width vs T (map g.F.Field.number c.as_slice.result.now) c.in-Exposed.support) c.in-Some.is
+    c.in_ok-out-in-Exposed.ensures)) in
+    exchange_found S g.met.F.Field.lawful p P M c.set-set.ensures.independent T c.args.line c.requires.within vs k place.0
+    c.in-Exposed.tip tip.0 c.in-Exposed.outer tip.1 place.1 c.in-Exposed.support tip.2
     c.requires.in_target told.0 c.in-Some.out told.1 told.2
 
 pub returns : goal.returns
@@ -48,8 +50,11 @@ returns g c =
     let k = subst (λ d. AreVectors S d vs) c.requires.width c.rank-rank.ensures.vectors in
     let told = subst (λ d. TellsLineOut S d vs T c.in-Exposed.outer c.in-Exposed.support None) c.requires.width
     (subst (λ w. TellsLineOut S c.args.basis.now.width vs T w c.in-Exposed.support None) c.as_slice.ensures.value
-    (subst (TellsLineOut S c.args.basis.now.width vs T (map g.F.Field.number c.as_slice.result.now) c.in-Exposed.support) c.in-None.is c.in_ok-out-in-Exposed.ensures)) in
+    (subst (TellsLineOut S c.args.basis.now.width vs T (map g.F.Field.number c.as_slice.result.now) c.in-Exposed.support) c.in-None.is
+    c.in_ok-out-in-Exposed.ensures)) in
     elim told as (λ _. OffersNothing S p vs T M c.args.line) [
-      | inl s ↦ spanned_offers_nothing S F p P M i T c.args.line c.requires.within vs k place.0 c.in-Exposed.tip tip.0 c.in-Exposed.outer tip.1 place.1 c.requires.spans s
-      | inr n ↦ closed_offers_nothing S F p P M i T c.args.line c.requires.within vs k place.0 c.in-Exposed.tip tip.0 c.in-Exposed.outer tip.1 place.1 c.in-Exposed.support tip.2 n
+      | inl s ↦ spanned_offers_nothing S F p P M i T c.args.line c.requires.within vs k place.0 c.in-Exposed.tip tip.0 c.in-Exposed.outer
+          tip.1 place.1 c.requires.spans s
+      | inr n ↦ closed_offers_nothing S F p P M i T c.args.line c.requires.within vs k place.0 c.in-Exposed.tip tip.0 c.in-Exposed.outer
+          tip.1 place.1 c.in-Exposed.support tip.2 n
     ]

@@ -14,5 +14,6 @@ returns g c =
     let e = c.args.line in
     let P = subst (IsProblem S) c.problem.ensures c.len-lines.ensures.problem in
     IfOk-weaker c.with.result _ _
-    (λ N w. larger_by_line S g.met.F.Field.lawful p P M c.set.ensures.independent e N c.requires.within c.requires.free w.0 (subst (λ (L : List ℕ). (l : ℕ) → Contains N l ↔ (Contains L l ⊎ (l ≡ e))) c.set.ensures.value w.1))
+    (λ N w. larger_by_line S g.met.F.Field.lawful p P M c.set.ensures.independent e N c.requires.within c.requires.free w.0
+    (subst (λ (L : List ℕ). (l : ℕ) → Contains N l ↔ (Contains L l ⊎ (l ≡ e))) c.set.ensures.value w.1))
     c.with.ensures

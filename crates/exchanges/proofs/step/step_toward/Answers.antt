@@ -21,8 +21,10 @@ returns-in_ok-swap-in-Some-Exchange-clause-missed g c =
     let P = subst (IsProblem S) c.problem-problem.ensures c.len-lines.ensures.problem in
     let k = subst (λ d. AreVectors S d keep) c.requires.width c.len-kept.ensures.vectors in
     let vs = vectors_at p M ++ keep in
-    let can = subst (IsOffer S p vs T M) c.in-Some-Exchange.field-0-is (subst (λ found. MatchOption found (IsSettled S p keep T M) (IsOffer S p vs T M)) c.in-Some-Exchange.is c.in_ok-out.ensures) in
+    let can = subst (IsOffer S p vs T M) c.in-Some-Exchange.field-0-is
+    (subst (λ found. MatchOption found (IsSettled S p keep T M) (IsOffer S p vs T M)) c.in-Some-Exchange.is c.in_ok-out.ensures) in
     let e = c.in_ok-swap-in-Some-Exchange.ensures in
     let after = subst (λ q. IsIndependentSet S q N) e.problem e.independent in
     subst (λ q. Misses S q N keep) (sym e.problem)
-    (kept_by_exchange S g.met.F.Field.lawful p P keep T c.requires.within M N out into c.set-set.ensures.independent can e.ok k c.requires.missed after.line_set).missed
+    (kept_by_exchange S g.met.F.Field.lawful p P keep T c.requires.within M N out into c.set-set.ensures.independent can e.ok k
+    c.requires.missed after.line_set).missed

@@ -17,8 +17,10 @@ swapped-requires g c =
     let i = c.set.ensures.independent in
     let P = subst (IsProblem S) c.problem-problem.ensures c.len-lines.ensures.problem in
     record {
-      gone = subst (λ L. Contains L c.args.out) (sym c.set.ensures.value) (goes_out S F p P M i c.args.out c.args.into c.requires.within c.requires.exposed c.requires.support);
-      new = subst (λ L. ¬ (Contains L c.args.into)) (sym c.set.ensures.value) (comes_in S F p P M i c.args.out c.args.into c.requires.within c.requires.exposed c.requires.support);
+      gone = subst (λ L. Contains L c.args.out) (sym c.set.ensures.value)
+          (goes_out S F p P M i c.args.out c.args.into c.requires.within c.requires.exposed c.requires.support);
+      new = subst (λ L. ¬ (Contains L c.args.into)) (sym c.set.ensures.value)
+          (comes_in S F p P M i c.args.out c.args.into c.requires.within c.requires.exposed c.requires.support);
     }
 
 pub start-requires : goal.start-requires
@@ -30,7 +32,8 @@ start-requires g c =
     let P = subst (IsProblem S) c.problem-problem.ensures c.len-lines.ensures.problem in
     let swap = subst (λ L. IsSwap L c.args.out c.args.into next) c.set.ensures.value c.in_ok-next.ensures.swap in
     subst (λ (q : ParityProblem). All (λ m. m < length q.lines) next) (sym c.problem-problem.ensures)
-    (within_after S g.met.F.Field.lawful p P M c.set.ensures.independent c.args.out c.args.into c.requires.within c.requires.exposed c.requires.support next swap)
+    (within_after S g.met.F.Field.lawful p P M c.set.ensures.independent c.args.out c.args.into c.requires.within c.requires.exposed
+    c.requires.support next swap)
 
 pub unreachable-requires : goal.unreachable-requires
 unreachable-requires g c =
@@ -41,6 +44,8 @@ unreachable-requires g c =
     let next = c.in_ok-next.next in
     let P = subst (IsProblem S) c.problem-problem.ensures c.len-lines.ensures.problem in
     let swap = subst (λ L. IsSwap L c.args.out c.args.into next) c.set.ensures.value c.in_ok-next.ensures.swap in
-    let j : IsIndependentSet S p next = independent_after S F p P M c.set.ensures.independent c.args.out c.args.into c.requires.within c.requires.exposed c.requires.support next swap c.in_ok-next.ensures.increasing in
-    let r = subst (TellsStart S p next) c.in-Relation.is (subst (λ q. TellsStart S q next c.in_ok-moved.field-0) c.problem-problem.ensures c.in_ok-moved.ensures) in
+    let j : IsIndependentSet S p next = independent_after S F p P M c.set.ensures.independent c.args.out c.args.into c.requires.within
+    c.requires.exposed c.requires.support next swap c.in_ok-next.ensures.increasing in
+    let r = subst (TellsStart S p next) c.in-Relation.is
+    (subst (λ q. TellsStart S q next c.in_ok-moved.field-0) c.problem-problem.ensures c.in_ok-moved.ensures) in
     no_relation S F p.dimension (vectors_at p next) c.in-Relation.field-0 j.independent r
