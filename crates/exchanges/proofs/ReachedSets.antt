@@ -17,11 +17,11 @@ use Rattle.parity_lines.specs.Problems.{ParityProblem, IsProblem, vectors_at}
 use Rattle.parity_theory.proofs.Nearness.{left_over, nearness_falls}
 
 -- what a step tells that has moved, at an equal problem
-pub exchange_told : (S : Scalars) (p q r : ParityProblem) (keep : List (List ℕ)) (T M N : List ℕ) (told : Stepped) (out into : ℕ) → q ≡ p → r ≡ q →
-    told ≡ Moved out into → TellsStep S q keep T M N told → IsIndependentSet S r N → IsExchangeToward S p keep T M out into N × IsLineSet p N
-exchange_told S p q r keep T M N told out into e f is step i = (
+pub exchange_told : (S : Scalars) (p q : ParityProblem) (keep : List (List ℕ)) (T M N : List ℕ) (told : Stepped) (out into : ℕ) → q ≡ p →
+    told ≡ Moved out into → TellsStep S q keep T M N told → StillMisses S q keep M N → IsExchangeToward S p keep T M out into N × IsLineSet p N
+exchange_told S p q keep T M N told out into e is step k = (
   subst (TellsStep S p keep T M N) is (subst (λ o. TellsStep S o keep T M N told) e step),
-  (subst (λ o. IsIndependentSet S o N) (f ∙ e) i).line_set,
+  (subst (λ o. StillMisses S o keep M N) e k).independent.line_set,
 )
 
 module _ (S : Scalars) (F : IsField S) (p : ParityProblem) (P : IsProblem S p) (keep : List (List ℕ)) (T : List ℕ)

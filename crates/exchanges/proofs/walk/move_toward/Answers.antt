@@ -23,8 +23,8 @@ loop-set-smaller g c =
     let P = subst (IsProblem S) c.problem-problem.ensures c.len-lines.ensures.problem in
     let e = c.in_ok-step_toward.ensures in
     let h = c.loop-set.invariant in
-    let told = exchange_told S p _ _ c.args.keep.now.rows T M N c.in_ok-step_toward.field-0 c.in-Moved.out c.in-Moved.into h.problem e.problem c.in-Moved.is
-    e.step e.independent in
+    let told = exchange_told S p _ c.args.keep.now.rows T M N c.in_ok-step_toward.field-0 c.in-Moved.out c.in-Moved.into h.problem c.in-Moved.is
+    e.step e.kept in
     let nearer : suc (left_over N T) ≡ left_over M T = nearer_by_exchange S g.met.F.Field.lawful p P c.args.keep.now.rows T c.requires.within M N
     c.in-Moved.out c.in-Moved.into h.kept.independent told.0.can told.0.swap c.len-aims.ensures.increasing told.1.increasing in
     omega arith
@@ -40,8 +40,8 @@ loop-set-preserved g c =
     let P = subst (IsProblem S) c.problem-problem.ensures c.len-lines.ensures.problem in
     let e = c.in_ok-step_toward.ensures in
     let h = c.loop-set.invariant in
-    let told = exchange_told S p _ _ keep T M N c.in_ok-step_toward.field-0 c.in-Moved.out c.in-Moved.into h.problem e.problem c.in-Moved.is e.step
-    e.independent in
+    let told = exchange_told S p _ keep T M N c.in_ok-step_toward.field-0 c.in-Moved.out c.in-Moved.into h.problem c.in-Moved.is e.step
+    e.kept in
     let r = one_more S g.met.F.Field.lawful p P keep T c.requires.within
     (subst (λ d. AreVectors S d keep) c.requires.width c.len-kept.ensures.vectors) c.args.state.now.set M N c.in-Moved.out c.in-Moved.into
     h.reached h.kept told.0 told.1 in
