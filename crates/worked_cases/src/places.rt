@@ -14,7 +14,7 @@ fn ready<'a, F: Field>(
     rt: &impl Abort,
     alloc: Global,
     problem: &'a Problem<F>,
-    text: &[u8],
+    text: &str,
 ) -> Result<Matched<'a, F>, AllocError> {
     match Matched::start(alloc, problem, &choice(rt, alloc, problem, text))? {
         Start::Ready(state) => Ok(state),
@@ -45,8 +45,8 @@ fn step<F: Field>(state: &Matched<'_, F>) -> Result<String, AllocError> {
 fn assert_places<F: Field>(
     rt: &impl Abort,
     alloc: Global,
-    text: &[u8],
-    chosen: &[u8],
+    text: &str,
+    chosen: &str,
     places: &str,
     steps: &str,
 ) -> Result<(), AllocError> {
@@ -64,12 +64,12 @@ fn assert_places<F: Field>(
 }
 
 /// Three lines, of which the last two can take the place of the first.
-const THREE: &[u8] = b"parity 1\nfield 3\ndimension 4\nlines 3\n\
+const THREE: &str = "parity 1\nfield 3\ndimension 4\nlines 3\n\
     line 1 0 0 0 | 0 1 0 0\nline 2 0 0 0 | 0 0 1 0\nline 0 2 0 0 | 0 0 1 1\n";
 
-const FIRST: &[u8] = b"choice 1\nsize 1\nset 1\nend\n";
+const FIRST: &str = "choice 1\nsize 1\nset 1\nend\n";
 
-const NONE: &[u8] = b"choice 1\nsize 0\nset\nend\n";
+const NONE: &str = "choice 1\nsize 0\nset\nend\n";
 
 #[test]
 fn two_lines_take_the_place_of_one(rt: HostRuntime) -> Result<(), Fail> {
@@ -78,7 +78,7 @@ fn two_lines_take_the_place_of_one(rt: HostRuntime) -> Result<(), Fail> {
 }
 
 /// A plane, a point, parallel vectors within the plane and outside, the plane again, and a line across.
-const DEGENERATE: &[u8] = b"parity 1\nfield 5\ndimension 3\nlines 6\n\
+const DEGENERATE: &str = "parity 1\nfield 5\ndimension 3\nlines 6\n\
     line 1 0 0 | 0 1 0\nline 0 0 0 | 0 0 0\nline 1 4 0 | 4 1 0\n\
     line 0 1 3 | 0 2 1\nline 1 0 0 | 0 1 0\nline 1 0 2 | 0 0 3\n";
 
@@ -109,10 +109,10 @@ fn path_has_no_direct_step(rt: HostRuntime) -> Result<(), Fail> {
     assert_places::<F2>(
         &rt,
         rt.alloc(),
-        b"parity 1\nfield 2\ndimension 6\nlines 5\n\
+        "parity 1\nfield 2\ndimension 6\nlines 5\n\
             line 1 0 0 0 0 0 | 0 1 0 0 0 0\nline 0 1 0 0 0 0 | 0 0 1 0 0 0\nline 0 0 1 0 0 0 | 0 0 0 1 0 0\n\
             line 0 0 0 1 0 0 | 0 0 0 0 1 0\nline 0 0 0 0 1 0 | 0 0 0 0 0 1\n",
-        b"choice 1\nsize 2\nset 2 4\nend\n",
+        "choice 1\nsize 2\nset 2 4\nend\n",
         "exposed 2, inside, inside, inside, exposed 4",
         "none",
     )?;
@@ -121,7 +121,7 @@ fn path_has_no_direct_step(rt: HostRuntime) -> Result<(), Fail> {
 
 #[test]
 fn space_of_no_dimension_has_no_free_line(rt: HostRuntime) -> Result<(), Fail> {
-    let text = b"parity 1\nfield 2\ndimension 0\nlines 2\nline |\nline |\n";
+    let text = "parity 1\nfield 2\ndimension 0\nlines 2\nline |\nline |\n";
     assert_places::<F2>(&rt, rt.alloc(), text, NONE, "inside, inside", "none")?;
     Ok(())
 }
@@ -135,7 +135,7 @@ fn vectors_have_coordinates(rt: HostRuntime) -> Result<(), Fail> {
     let vectors = problem::<F3>(
         &rt,
         alloc,
-        b"parity 1\nfield 3\ndimension 4\nlines 1\nline 1 1 0 0 | 1 1 0 1\n",
+        "parity 1\nfield 3\ndimension 4\nlines 1\nline 1 1 0 0 | 1 1 0 1\n",
     );
     assert!(rt; vectors.len() == 1 && vectors.dimension() == three.dimension());
     let inside = state.coordinates(vectors.first(0))?.expect(&rt, "a vector of the span");
@@ -147,7 +147,7 @@ fn vectors_have_coordinates(rt: HostRuntime) -> Result<(), Fail> {
 #[test]
 fn dependent_set_has_a_relation(rt: HostRuntime) -> Result<(), Fail> {
     let alloc = rt.alloc();
-    let text = b"parity 1\nfield 256\ndimension 2\nlines 1\nline 83 1 | 1 202\n";
+    let text = "parity 1\nfield 256\ndimension 2\nlines 1\nline 83 1 | 1 202\n";
     let problem = problem::<F256>(&rt, alloc, text);
     match Matched::start(alloc, &problem, &choice(&rt, alloc, &problem, FIRST))? {
         Start::Ready(_) => panic!(rt; "the set is dependent"),

@@ -12,15 +12,15 @@ use std::alloc::{AllocError, Global};
 use std::process::Abort;
 
 /// The problem over the field of a text without a head.
-pub fn lines<F: Field>(rt: &impl Abort, alloc: Global, text: &[u8]) -> Problem<F> {
+pub fn lines<F: Field>(rt: &impl Abort, alloc: Global, text: &str) -> Problem<F> {
     assert!(rt; text.len() <= 4_194_304);
-    read_problem(alloc, &mut Lexer::new(text)).expect(rt, "a problem")
+    read_problem(alloc, &mut Lexer::new(text.as_bytes())).expect(rt, "a problem")
 }
 
 /// The problem of a text, whose head names the field.
-pub fn problem<F: Field>(rt: &impl Abort, alloc: Global, text: &[u8]) -> Problem<F> {
+pub fn problem<F: Field>(rt: &impl Abort, alloc: Global, text: &str) -> Problem<F> {
     assert!(rt; text.len() <= 4_194_304);
-    let mut lexer = Lexer::new(text);
+    let mut lexer = Lexer::new(text.as_bytes());
     let field = read_head(&mut lexer).expect(rt, "a head");
     assert_eq!(rt; field.order(), F::ORDER);
     read_problem(alloc, &mut lexer).expect(rt, "a problem")
@@ -31,12 +31,12 @@ pub fn answer<F: Field>(
     rt: &impl Abort,
     alloc: Global,
     problem: &Problem<F>,
-    text: &[u8],
+    text: &str,
 ) -> Answer<F>
     ensures { IsAnswerTo F.scalars problem.now (answer_value result) }
 {
     assert!(rt; text.len() <= 4_194_304);
-    let mut lexer = Lexer::new(text);
+    let mut lexer = Lexer::new(text.as_bytes());
     let read = read_answer(alloc, &mut lexer, problem);
     match read {
         Ok(answer) => answer,
@@ -49,12 +49,12 @@ pub fn choice<F: Field>(
     rt: &impl Abort,
     alloc: Global,
     problem: &Problem<F>,
-    text: &[u8],
+    text: &str,
 ) -> LineSet
     ensures { All (λ m. m < length problem.now.lines) result }
 {
     assert!(rt; text.len() <= 4_194_304);
-    let mut lexer = Lexer::new(text);
+    let mut lexer = Lexer::new(text.as_bytes());
     let read = read_set(alloc, &mut lexer, problem.len());
     match read {
         Ok(set) => set,

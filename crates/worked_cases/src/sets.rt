@@ -8,8 +8,8 @@ use std::test::Fail;
 #[test]
 fn lines_are_put_in_and_left_out(rt: HostRuntime) -> Result<(), Fail> {
     let alloc = rt.alloc();
-    let text = b"choice 1\nsize 3\nset 2 3 5\nend\n";
-    let set = read_set(alloc, &mut Lexer::new(text), 9).expect(&rt, "a choice");
+    let text = "choice 1\nsize 3\nset 2 3 5\nend\n";
+    let set = read_set(alloc, &mut Lexer::new(text.as_bytes()), 9).expect(&rt, "a choice");
     assert!(rt; set.holds(4) && !set.holds(3));
     for (line, with, without) in [
         (0, "1 2 3 5", "2 3 5"),

@@ -48,7 +48,7 @@ fn assert_basis<F: Field>(
 fn assert_meet<F: Field>(
     rt: &impl Abort,
     alloc: Global,
-    text: &[u8],
+    text: &str,
     meeting: &str,
     sum: &str,
 ) -> Result<(), AllocError> {
@@ -62,7 +62,7 @@ fn assert_meet<F: Field>(
 #[test]
 fn planes_of_axes_meet_in_an_axis(rt: HostRuntime) -> Result<(), Fail> {
     let alloc = rt.alloc();
-    let text = b"dimension 3\nlines 2\nline 1 0 0 | 0 1 0\nline 0 1 0 | 0 0 1\n";
+    let text = "dimension 3\nlines 2\nline 1 0 0 | 0 1 0\nline 0 1 0 | 0 0 1\n";
     assert_meet::<F2>(&rt, alloc, text, "0 1 0", "1 0 0 / 0 1 0 / 0 0 1")?;
     assert_meet::<F256>(&rt, alloc, text, "0 1 0", "1 0 0 / 0 1 0 / 0 0 1")?;
     let planes = lines::<F2>(&rt, alloc, text);
@@ -77,16 +77,16 @@ fn planes_of_axes_meet_in_an_axis(rt: HostRuntime) -> Result<(), Fail> {
 fn planes_meet_outside_of_the_axes(rt: HostRuntime) -> Result<(), Fail> {
     for (text, meeting, sum) in [
         (
-            b"dimension 4\nlines 2\nline 1 2 0 1 | 0 0 1 3\nline 1 2 2 2 | 0 1 0 0\n".as_slice(),
+            "dimension 4\nlines 2\nline 1 2 0 1 | 0 0 1 3\nline 1 2 2 2 | 0 1 0 0\n",
             "1 2 2 2",
             "1 0 0 1 / 0 1 0 0 / 0 0 1 3",
         ),
         (
-            b"dimension 4\nlines 2\nline 1 2 0 1 | 0 0 1 3\nline 1 2 0 1 | 0 0 1 3\n",
+            "dimension 4\nlines 2\nline 1 2 0 1 | 0 0 1 3\nline 1 2 0 1 | 0 0 1 3\n",
             "1 2 0 1 / 0 0 1 3",
             "1 2 0 1 / 0 0 1 3",
         ),
-        (b"dimension 0\nlines 2\nline |\nline |\n", "", ""),
+        ("dimension 0\nlines 2\nline |\nline |\n", "", ""),
     ] {
         assert_meet::<F5>(&rt, rt.alloc(), text, meeting, sum)?;
     }
@@ -99,7 +99,7 @@ fn spans_are_reduced(rt: HostRuntime) -> Result<(), Fail> {
     let vectors = lines::<F5>(
         &rt,
         alloc,
-        b"dimension 4\nlines 3\nline 0 2 4 1 | 1 1 1 1\nline 2 2 2 2 | 0 0 0 0\nline 1 0 0 0 | 0 0 0 0\n",
+        "dimension 4\nlines 3\nline 0 2 4 1 | 1 1 1 1\nline 2 2 2 2 | 0 0 0 0\nline 1 0 0 0 | 0 0 0 0\n",
     );
     let space = span(&rt, alloc, &vectors, 0, 2)?;
     assert_basis(&rt, alloc, &space, "1 0 4 3 / 0 1 2 3")?;
@@ -116,8 +116,8 @@ fn spans_are_reduced(rt: HostRuntime) -> Result<(), Fail> {
 #[test]
 fn vectors_are_divided_by_a_point(rt: HostRuntime) -> Result<(), Fail> {
     let alloc = rt.alloc();
-    let whole = lines::<F3>(&rt, alloc, b"dimension 3\nlines 1\nline 0 2 1 | 1 1 1\n");
-    let shorter = lines::<F3>(&rt, alloc, b"dimension 2\nlines 1\nline 1 2 | 0 0\n");
+    let whole = lines::<F3>(&rt, alloc, "dimension 3\nlines 1\nline 0 2 1 | 1 1 1\n");
+    let shorter = lines::<F3>(&rt, alloc, "dimension 2\nlines 1\nline 1 2 | 0 0\n");
     assert!(rt; whole.len() == 1 && whole.dimension() == 3 && shorter.len() == 1 && shorter.dimension() == 2);
     let point = whole.first(0);
     assert!(rt; !is_zero(point));

@@ -14,52 +14,52 @@ fn judged<F: Field>(
     rt: &impl Abort,
     alloc: Global,
     problem: &Problem<F>,
-    text: &[u8],
+    text: &str,
 ) -> Result<Verdict, AllocError> {
     let answer = answer(rt, alloc, problem, text);
     verdict(alloc, problem, &answer)
 }
 
 /// Three lines through the first unit vector.
-const STAR: &[u8] =
-    b"dimension 4\nlines 3\nline 1 0 0 0 | 0 1 0 0\nline 1 0 0 0 | 0 0 1 0\nline 1 0 0 0 | 0 0 0 1\n";
+const STAR: &str =
+    "dimension 4\nlines 3\nline 1 0 0 0 | 0 1 0 0\nline 1 0 0 0 | 0 0 1 0\nline 1 0 0 0 | 0 0 0 1\n";
 
 /// Answers to the star, and the verdicts on them.
-const ANSWERS: [(&[u8], Verdict); 9] = [
+const ANSWERS: [(&str, Verdict); 9] = [
     (
-        b"answer 1\nsize 1\nset 1\nkernel 1\nvector 1 0 0 0\nparts 3\npart 1\npart 2\npart 3\nend\n",
+        "answer 1\nsize 1\nset 1\nkernel 1\nvector 1 0 0 0\nparts 3\npart 1\npart 2\npart 3\nend\n",
         Verdict::Yes,
     ),
     (
-        b"answer 1\nsize 2\nset 1 2\nkernel 1\nvector 1 0 0 0\nparts 3\npart 1\npart 2\npart 3\nend\n",
+        "answer 1\nsize 2\nset 1 2\nkernel 1\nvector 1 0 0 0\nparts 3\npart 1\npart 2\npart 3\nend\n",
         Verdict::Dependent,
     ),
     (
-        b"answer 1\nsize 1\nset 1\nkernel 2\nvector 1 0 0 0\nvector 1 0 0 0\nparts 0\nend\n",
+        "answer 1\nsize 1\nset 1\nkernel 2\nvector 1 0 0 0\nvector 1 0 0 0\nparts 0\nend\n",
         Verdict::KernelDependent,
     ),
     (
-        b"answer 1\nsize 1\nset 1\nkernel 1\nvector 0 0 0 0\nparts 3\npart 1\npart 2\npart 3\nend\n",
+        "answer 1\nsize 1\nset 1\nkernel 1\nvector 0 0 0 0\nparts 3\npart 1\npart 2\npart 3\nend\n",
         Verdict::KernelDependent,
     ),
     (
-        b"answer 1\nsize 1\nset 1\nkernel 1\nvector 1 0 0 0\nparts 2\npart 1\npart 3\nend\n",
+        "answer 1\nsize 1\nset 1\nkernel 1\nvector 1 0 0 0\nparts 2\npart 1\npart 3\nend\n",
         Verdict::PartsMissing(1),
     ),
     (
-        b"answer 1\nsize 1\nset 1\nkernel 1\nvector 1 0 0 0\nparts 2\npart 1\npart 1\nend\n",
+        "answer 1\nsize 1\nset 1\nkernel 1\nvector 1 0 0 0\nparts 2\npart 1\npart 1\nend\n",
         Verdict::PartsMissing(1),
     ),
     (
-        b"answer 1\nsize 1\nset 1\nkernel 1\nvector 1 0 0 0\nparts 2\npart 1 2 3\npart 2 3\nend\n",
+        "answer 1\nsize 1\nset 1\nkernel 1\nvector 1 0 0 0\nparts 2\npart 1 2 3\npart 2 3\nend\n",
         Verdict::PartsTwice(1),
     ),
     (
-        b"answer 1\nsize 1\nset 1\nkernel 1\nvector 1 0 0 0\nparts 1\npart 1 2 3\nend\n",
+        "answer 1\nsize 1\nset 1\nkernel 1\nvector 1 0 0 0\nparts 1\npart 1 2 3\nend\n",
         Verdict::BoundOff { size: 1, bound: 2 },
     ),
     (
-        b"answer 1\nsize 0\nset\nkernel 0\nparts 1\npart 1 2 3\nend\n",
+        "answer 1\nsize 0\nset\nkernel 0\nparts 1\npart 1 2 3\nend\n",
         Verdict::BoundOff { size: 0, bound: 2 },
     ),
 ];
@@ -80,7 +80,7 @@ fn each_verdict_comes(rt: HostRuntime) -> Result<(), Fail> {
 }
 
 /// Three triangles with lines (x, y), (y, z) and (x + p, z), which share the point p: the certificate needs it.
-const HUB: &[u8] = b"parity 1\nfield 2\ndimension 10\nlines 9\n\
+const HUB: &str = "parity 1\nfield 2\ndimension 10\nlines 9\n\
     line 0 1 0 0 0 0 0 0 0 0 | 0 0 1 0 0 0 0 0 0 0\n\
     line 0 0 1 0 0 0 0 0 0 0 | 0 0 0 1 0 0 0 0 0 0\n\
     line 1 1 0 0 0 0 0 0 0 0 | 0 0 0 1 0 0 0 0 0 0\n\
@@ -97,15 +97,15 @@ fn hub_of_three_triangles(rt: HostRuntime) -> Result<(), Fail> {
     let hub = problem::<F2>(&rt, alloc, HUB);
     let answers = [
         (
-            b"answer 1\nsize 4\nset 1 3 4 7\nkernel 1\nvector 1 0 0 0 0 0 0 0 0 0\nparts 3\npart 1 2 3\npart 4 5 6\npart 7 8 9\nend\n".as_slice(),
+            "answer 1\nsize 4\nset 1 3 4 7\nkernel 1\nvector 1 0 0 0 0 0 0 0 0 0\nparts 3\npart 1 2 3\npart 4 5 6\npart 7 8 9\nend\n",
             Verdict::Yes,
         ),
         (
-            b"answer 1\nsize 4\nset 1 3 4 7\nkernel 0\nparts 3\npart 1 2 3\npart 4 5 6\npart 7 8 9\nend\n",
+            "answer 1\nsize 4\nset 1 3 4 7\nkernel 0\nparts 3\npart 1 2 3\npart 4 5 6\npart 7 8 9\nend\n",
             Verdict::BoundOff { size: 4, bound: 6 },
         ),
         (
-            b"answer 1\nsize 5\nset 1 3 4 6 7\nkernel 0\nparts 3\npart 1 2 3\npart 4 5 6\npart 7 8 9\nend\n",
+            "answer 1\nsize 5\nset 1 3 4 6 7\nkernel 0\nparts 3\npart 1 2 3\npart 4 5 6\npart 7 8 9\nend\n",
             Verdict::Dependent,
         ),
     ];
