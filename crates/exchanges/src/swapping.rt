@@ -14,7 +14,7 @@ use parity_lines::LineSet;
 use std::alloc::AllocError;
 
 /// The set with `into` in the place of `out`.
-fn swapped(alloc: Global, set: &LineSet, out: usize, into: usize) -> Result<LineSet, AllocError>
+fn swapped(set: &LineSet, out: usize, into: usize) -> Result<LineSet, AllocError>
     requires gone { Contains set.now out }
     requires new { ¬ (Contains set.now into) }
     ensures increasing { IfOk result IsStrictlyIncreasing }
