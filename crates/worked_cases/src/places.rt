@@ -10,7 +10,7 @@ use std::process::Abort;
 use std::test::Fail;
 
 /// The state of the set that a text chooses.
-fn ready<'a, F: Field>(
+pub fn ready<'a, F: Field>(
     rt: &impl Abort,
     alloc: Global,
     problem: &'a Problem<F>,
@@ -64,10 +64,10 @@ fn assert_places<F: Field>(
 }
 
 /// Three lines, of which the last two can take the place of the first.
-const THREE: &str = "parity 1\nfield 3\ndimension 4\nlines 3\n\
+pub const THREE: &str = "parity 1\nfield 3\ndimension 4\nlines 3\n\
     line 1 0 0 0 | 0 1 0 0\nline 2 0 0 0 | 0 0 1 0\nline 0 2 0 0 | 0 0 1 1\n";
 
-const FIRST: &str = "choice 1\nsize 1\nset 1\nend\n";
+pub const FIRST: &str = "choice 1\nsize 1\nset 1\nend\n";
 
 const NONE: &str = "choice 1\nsize 0\nset\nend\n";
 
@@ -104,15 +104,20 @@ fn degenerate_lines_have_places(rt: HostRuntime) -> Result<(), Fail> {
     Ok(())
 }
 
+/// The lines between the neighbours of six points.
+pub const PATH: &str = "parity 1\nfield 2\ndimension 6\nlines 5\n\
+    line 1 0 0 0 0 0 | 0 1 0 0 0 0\nline 0 1 0 0 0 0 | 0 0 1 0 0 0\nline 0 0 1 0 0 0 | 0 0 0 1 0 0\n\
+    line 0 0 0 1 0 0 | 0 0 0 0 1 0\nline 0 0 0 0 1 0 | 0 0 0 0 0 1\n";
+
+pub const SECOND_AND_FOURTH: &str = "choice 1\nsize 2\nset 2 4\nend\n";
+
 #[test]
 fn path_has_no_direct_step(rt: HostRuntime) -> Result<(), Fail> {
     assert_places::<F2>(
         &rt,
         rt.alloc(),
-        "parity 1\nfield 2\ndimension 6\nlines 5\n\
-            line 1 0 0 0 0 0 | 0 1 0 0 0 0\nline 0 1 0 0 0 0 | 0 0 1 0 0 0\nline 0 0 1 0 0 0 | 0 0 0 1 0 0\n\
-            line 0 0 0 1 0 0 | 0 0 0 0 1 0\nline 0 0 0 0 1 0 | 0 0 0 0 0 1\n",
-        "choice 1\nsize 2\nset 2 4\nend\n",
+        PATH,
+        SECOND_AND_FOURTH,
         "exposed 2, inside, inside, inside, exposed 4",
         "none",
     )?;
