@@ -52,12 +52,12 @@ fn assert_places<F: Field>(
 ) -> Result<(), AllocError> {
     let problem = problem::<F>(rt, alloc, text);
     let state = ready(rt, alloc, &problem, chosen)?;
-    let mut line = 0;
-    for want in places.split(", ") {
+    let mut wanted = places.split(", ");
+    for line in 0..problem.len() {
+        let want = wanted.next().expect(rt, "a place");
         assert_eq!(rt; place(rt, &state, line)?.as_str(), want);
-        line += 1;
     }
-    assert_eq!(rt; line, problem.len());
+    assert!(rt; wanted.next().is_none());
     let found = step(&state)?;
     assert!(rt; steps.split(", ").any(|set| set == found.as_str()), "a step to {found}");
     Ok(())
@@ -137,10 +137,13 @@ fn vectors_have_coordinates(rt: HostRuntime) -> Result<(), Fail> {
         alloc,
         "parity 1\nfield 3\ndimension 4\nlines 1\nline 1 1 0 0 | 1 1 0 1\n",
     );
-    assert!(rt; vectors.len() == 1 && vectors.dimension() == three.dimension());
-    let inside = state.coordinates(vectors.first(0))?.expect(&rt, "a vector of the span");
-    assert_eq!(rt; shown(alloc, inside.as_slice())?.as_str(), "1 1");
-    assert!(rt; state.coordinates(vectors.second(0))?.is_none());
+    assert!(rt; vectors.len() == 1);
+    let (inside, outside) = (vectors.first(0), vectors.second(0));
+    assert!(rt; inside.len() == state.problem().dimension());
+    assert!(rt; outside.len() == state.problem().dimension());
+    let coordinates = state.coordinates(inside)?.expect(&rt, "a vector of the span");
+    assert_eq!(rt; shown(alloc, coordinates.as_slice())?.as_str(), "1 1");
+    assert!(rt; state.coordinates(outside)?.is_none());
     Ok(())
 }
 
