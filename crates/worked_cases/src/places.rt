@@ -23,12 +23,19 @@ fn ready<'a, F: Field>(
 }
 
 /// The place of a line in words, with its support where it is exposed.
-fn place<F: Field>(rt: &impl Abort, state: &Matched<'_, F>, line: usize) -> Result<String, AllocError> {
+fn place<F: Field>(
+    rt: &impl Abort,
+    state: &Matched<'_, F>,
+    line: usize,
+) -> Result<String, AllocError> {
     assert!(rt; line < state.problem().len());
     match state.position(line)? {
         Place::Inside => String::from_str(state.alloc(), "inside"),
         Place::Single { .. } => String::from_str(state.alloc(), "single"),
-        Place::Exposed { support, .. } => format!(in state.alloc(); "exposed {}", shown_set(state.alloc(), &support)?),
+        Place::Exposed { support, .. } => format!(in state.alloc();
+            "exposed {}",
+            shown_set(state.alloc(), &support)?
+        ),
         Place::Free => String::from_str(state.alloc(), "free"),
     }
 }
@@ -77,7 +84,13 @@ const NONE: &str = "choice 1\nsize 0\nset\nend\n";
 
 #[test]
 fn two_lines_take_the_place_of_one(rt: HostRuntime) -> Result<(), Fail> {
-    let step = step_at::<F3>(&rt, rt.alloc(), THREE, FIRST, "inside, exposed 1, exposed 1")?;
+    let step = step_at::<F3>(
+        &rt,
+        rt.alloc(),
+        THREE,
+        FIRST,
+        "inside, exposed 1, exposed 1",
+    )?;
     assert_eq!(rt; step.as_str(), "2 3");
     Ok(())
 }
@@ -91,7 +104,10 @@ const DEGENERATE: &str = "parity 1\nfield 5\ndimension 3\nlines 6\n\
 fn degenerate_lines_have_places(rt: HostRuntime) -> Result<(), Fail> {
     let alloc = rt.alloc();
     let over_one = "inside, inside, inside, single, inside, exposed 1";
-    assert_eq!(rt; step_at::<F5>(&rt, alloc, DEGENERATE, FIRST, over_one)?.as_str(), "none");
+    assert_eq!(rt;
+        step_at::<F5>(&rt, alloc, DEGENERATE, FIRST, over_one)?.as_str(),
+        "none"
+    );
     let over_none = "free, inside, single, single, free, free";
     assert!(rt; step_at::<F5>(&rt, alloc, DEGENERATE, NONE, over_none)?.as_str() != "none");
     Ok(())
@@ -134,7 +150,9 @@ fn vectors_have_coordinates(rt: HostRuntime) -> Result<(), Fail> {
     let (inside, outside) = (vectors.first(0), vectors.second(0));
     assert!(rt; inside.len() == state.problem().dimension());
     assert!(rt; outside.len() == state.problem().dimension());
-    let coordinates = state.coordinates(inside)?.expect(&rt, "a vector of the span");
+    let coordinates = state
+        .coordinates(inside)?
+        .expect(&rt, "a vector of the span");
     assert_eq!(rt; shown(alloc, coordinates.as_slice())?.as_str(), "1 1");
     assert!(rt; state.coordinates(outside)?.is_none());
     Ok(())

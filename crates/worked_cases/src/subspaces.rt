@@ -146,9 +146,18 @@ fn vectors_are_divided_by_a_point(rt: HostRuntime) -> Result<(), Fail> {
     let shorter = lines::<F3>(&rt, alloc, "dimension 2\nlines 1\nline 1 2 | 0 0\n");
     assert!(rt; whole.len() == 1 && shorter.len() == 1);
     let point = whole.first(0);
-    assert_eq!(rt; projected(&rt, alloc, point, whole.second(0))?.as_str(), "1 2");
+    assert_eq!(rt;
+        projected(&rt, alloc, point, whole.second(0))?.as_str(),
+        "1 2"
+    );
     assert_eq!(rt; projected(&rt, alloc, point, point)?.as_str(), "0 0");
-    assert_eq!(rt; lifted(&rt, alloc, point, shorter.first(0))?.as_str(), "1 0 2");
-    assert_eq!(rt; lifted(&rt, alloc, point, shorter.second(0))?.as_str(), "0 0 0");
+    assert_eq!(rt;
+        lifted(&rt, alloc, point, shorter.first(0))?.as_str(),
+        "1 0 2"
+    );
+    assert_eq!(rt;
+        lifted(&rt, alloc, point, shorter.second(0))?.as_str(),
+        "0 0 0"
+    );
     Ok(())
 }
