@@ -1,6 +1,6 @@
 //! Exchanges of lines, and steps toward a target.
 
-ghost use Rattle.std.specs.Prelude.{◌≡◌, ◌<◌, All, length};
+ghost use Rattle.std.specs.Prelude.{◌<◌, All, length};
 
 use crate::places::{FIRST, PATH, SECOND_AND_FOURTH, THREE, ready};
 use crate::reading::{choice, problem, shown_set};
@@ -33,7 +33,6 @@ fn exchange<F: Field>(
 /// A step with nothing to keep, by the positions from 1.
 fn step<F: Field>(state: &mut Matched<'_, F>, target: &LineSet) -> Result<String, AllocError>
     requires { All (λ m. m < length state.old.problem.lines) target.now }
-    ensures { state.new.problem ≡ state.old.problem }
 {
     let (alloc, problem, _set) = (state.alloc(), state.problem(), state.set());
     match step_toward(state, target, &Rows::new(alloc, problem.dimension()))? {
@@ -72,8 +71,8 @@ fn exposed_line_takes_the_place(rt: HostRuntime) -> Result<(), Fail> {
 fn path_is_walked_to_its_ends(rt: HostRuntime) -> Result<(), Fail> {
     let alloc = rt.alloc();
     let path = problem::<F2>(&rt, alloc, PATH);
-    let ends = choice(&rt, alloc, &path, FIRST_AND_LAST);
     let mut state = ready(&rt, alloc, &path, SECOND_AND_FOURTH)?;
+    let ends = choice(&rt, alloc, state.problem(), FIRST_AND_LAST);
     assert_eq!(rt; walk(&mut state, &ends)?.as_str(), "settled");
     assert_eq!(rt; shown_set(alloc, state.set())?.as_str(), "1 5");
     Ok(())
@@ -83,9 +82,9 @@ fn path_is_walked_to_its_ends(rt: HostRuntime) -> Result<(), Fail> {
 fn path_is_walked_step_by_step(rt: HostRuntime) -> Result<(), Fail> {
     let alloc = rt.alloc();
     let path = problem::<F2>(&rt, alloc, PATH);
-    let ends = choice(&rt, alloc, &path, FIRST_AND_LAST);
     let mut state = ready(&rt, alloc, &path, SECOND_AND_FOURTH)?;
     for want in ["1 for 2", "5 for 4", "settled"] {
+        let ends = choice(&rt, alloc, state.problem(), FIRST_AND_LAST);
         assert_eq!(rt; step(&mut state, &ends)?.as_str(), want);
     }
     Ok(())
