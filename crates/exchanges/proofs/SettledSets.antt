@@ -1,5 +1,5 @@
--- Sets that have settled toward an independent target, in the space of tuples.
-use Rattle.std.proofs.Common.{ℕ, ◌<◌, ◌⊎◌, inl, inr, List, [], ◌∷◌, ◌++◌, length}
+-- Sets that have settled toward a target, in the space of tuples, and what they span.
+use Rattle.std.proofs.Common.{ℕ, ◌<◌, ◌⊎◌, inl, inr, List, [], ◌∷◌, ◌++◌, length, All}
 use Rattle.vector_spaces.proofs.Independence.{IsIndependent as IsIndependent_of}
 use Rattle.vector_spaces.proofs.Members.{In, In-all, contains-In, In-contains, decide_in}
 use Rattle.vector_spaces.proofs.Space.{Space}
@@ -28,7 +28,7 @@ use Rattle.parity_theory.proofs.Supports.{SupportIn, InSupport, support_in_or_no
 
 module _ (S : Scalars) (F : IsField S) (p : ParityProblem) (P : IsProblem S p) (M : List ℕ) (i : IsIndependentSet S p M)
     (keep : List (List ℕ)) (k : AreVectors S p.dimension keep) (m : Misses S p M keep)
-    (T : List ℕ) (t : IsIndependentSet S p T) (settled : IsSettled S p keep T M) where
+    (T : List ℕ) (in_T : All (λ m. m < length p.lines) T) (settled : IsSettled S p keep T M) where
   abbrev sp : Space (scalar_field S F) (Tuple (Element S) p.dimension)
   sp = space S F p.dimension
 
@@ -41,11 +41,8 @@ module _ (S : Scalars) (F : IsField S) (p : ParityProblem) (P : IsProblem S p) (
   missed : Misses_of sp line M kept
   missed = misses_to S F p P M keep i.line_set.within k m
 
-  target : IsIndependent_of sp (vectors line T)
-  target = tuples_independent S F p P T t T t
-
   within : (l : ℕ) → In l T → l < length p.lines
-  within l j = In-all (λ n. n < length p.lines) T t.line_set.within l j
+  within l j = In-all (λ n. n < length p.lines) T in_T l j
 
   -- an exposed line of the target is spanned, or has its support in the target
   closed : (l : ℕ) → In l T → (tip outer : Tuple (Element S) p.dimension) (cs : List (Element S × Element S)) →
@@ -67,11 +64,19 @@ module _ (S : Scalars) (F : IsField S) (p : ParityProblem) (P : IsProblem S p) (
         not_spanned = λ s. n (within_of_spanned S F p P M keep i.line_set.within k (l ∷ []) (one_line S F p P l (within l j)) s);
       }))
 
-  pub settled_tuples : IsSettled_of sp line M kept T
-  settled_tuples = settled_by_places sp line M kept T missed (λ l j. line_independent sp line T l target j)
+  -- so the set has settled over tuples, where the two vectors of each line of the target are independent
+  pub settled_tuples : ((l : ℕ) → In l T → IsIndependent_of sp (vectors line (l ∷ []))) → IsSettled_of sp line M kept T
+  settled_tuples own = settled_by_places sp line M kept T missed own
       (λ l j f. settled.not_free l (contains-In T l j) (free_rank S F p P M l i (within l j) (free_of_independent sp line M l f))) closed
 
-  -- so the set spans the target, together with what is kept
-  pub target_spanned : AreSpanned S p (vectors_at p M ++ keep) T
-  target_spanned = spanned_of_within S F p P M keep i.line_set.within k T t.line_set.within
-      (settled_at_independent_target sp line M kept T target settled_tuples)
+  module _ (t : IsIndependentSet S p T) where
+    target : IsIndependent_of sp (vectors line T)
+    target = tuples_independent S F p P T t T t
+
+    pub settled_at_set : IsSettled_of sp line M kept T
+    settled_at_set = settled_tuples (λ l j. line_independent sp line T l target j)
+
+    -- and spans an independent target, together with what is kept
+    pub target_spanned : AreSpanned S p (vectors_at p M ++ keep) T
+    target_spanned = spanned_of_within S F p P M keep i.line_set.within k T in_T
+        (settled_at_independent_target sp line M kept T target settled_at_set)

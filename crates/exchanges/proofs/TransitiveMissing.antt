@@ -5,7 +5,7 @@ use Rattle.linear_algebra.specs.Scalars.{Scalars, IsField}
 use Rattle.linear_algebra.specs.Vectors.{IsVector, AreVectors}
 use Rattle.linear_algebra.proofs.Coordinates.{tuple, space}
 use Rattle.exchanges.proofs.ReachedSets.{kept_by_exchanges}
-use Rattle.exchanges.proofs.SettledSets.{settled_tuples}
+use Rattle.exchanges.proofs.SettledSets.{settled_at_set}
 use Rattle.exchanges.specs.Exchanges.{IsReached, IsSettled, StillMisses}
 use Rattle.matching_state.specs.Missing.{Misses}
 use Rattle.matching_state.proofs.Ties.{misses_to, misses_from}
@@ -45,7 +45,7 @@ module _ (S : Scalars) (F : IsField S) (p : ParityProblem) (P : IsProblem S p) (
       elim (transitivity_of_missing (space S F p.dimension) (tuples_at S F p) L N (tuple S F p.dimension u) (tuple S F p.dimension q)
       (tuple S F p.dimension w) (reached.as_long ∙ same)
       (misses_to S F p P L (q ∷ []) within alone reached.missed) (misses_to S F p P N (u ∷ w ∷ []) j.line_set.within others n)
-      (settled_tuples S F p P L reached.independent (q ∷ []) alone reached.missed N j s)) [
+      (settled_at_set S F p P L reached.independent (q ∷ []) alone reached.missed N j.line_set.within s j)) [
         | inl a ↦ inl (misses_from S F p P L (q ∷ u ∷ []) within (pair q u first second) a)
         | inr b ↦ inr (misses_from S F p P L (q ∷ w ∷ []) within (pair q w first third) b)
       ]

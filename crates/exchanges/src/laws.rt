@@ -1,6 +1,6 @@
 //! What holds of exchanges toward a target, as clauses of functions that do nothing.
 
-ghost use Rattle.std.specs.Prelude.{◌≡◌, ◌<◌, ◌≤◌, ◌⊎◌, ◌∷◌, ◌++◌, [], ℕ, suc, List, All, length};
+ghost use Rattle.std.specs.Prelude.{◌≡◌, ◌≤◌, ◌⊎◌, ◌∷◌, ◌++◌, [], ℕ, suc, List, length};
 ghost use Rattle.std.specs.List.{Contains};
 ghost use Rattle.linear_algebra.specs.Scalars.{Scalars, IsField};
 ghost use Rattle.linear_algebra.specs.Vectors.{AreVectors};

@@ -1,6 +1,6 @@
 //! One step toward a target.
 
-ghost use Rattle.std.specs.Prelude.{◌≡◌, ◌<◌, ℕ, All, IfOk, OnErr, length};
+ghost use Rattle.std.specs.Prelude.{◌≡◌, ◌<◌, All, IfOk, OnErr, length};
 ghost use Rattle.exchanges.specs.Exchanges.{IsLonger, StillMisses};
 ghost use Rattle.exchanges.specs.Steps.{TellsStep};
 ghost use Rattle.matching_state.specs.Missing.{Misses};

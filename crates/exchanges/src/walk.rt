@@ -1,6 +1,6 @@
 //! Steps toward a target, as far as they go.
 
-ghost use Rattle.std.specs.Prelude.{◌≡◌, ◌<◌, ℕ, All, IfOk, OnErr, length};
+ghost use Rattle.std.specs.Prelude.{◌≡◌, ◌<◌, All, IfOk, length};
 ghost use Rattle.exchanges.specs.Exchanges.{IsReached, StillMisses};
 ghost use Rattle.exchanges.specs.Steps.{TellsMoved};
 ghost use Rattle.matching_state.specs.Missing.{Misses};
