@@ -2,7 +2,7 @@
 use Rattle.std.proofs.Common.{◌≡◌, ◌≢◌, ℕ, zero, suc, ◌≤◌, ◌⊎◌, List, refl}
 use Rattle.augmentation_theory.proofs.MinMax.{min_max}
 use Rattle.augmentation_theory.proofs.Missing.{MissingSet}
-use Rattle.augmentation_theory.proofs.TuplePoints.{quotient_of_tuples}
+use Rattle.vector_spaces.proofs.TupleQuotients.{quotient_of_tuples}
 use Rattle.class_theory.proofs.LinesBelow.{IsLineSet}
 use Rattle.core_theory.proofs.Core.{Core, core_of_set}
 use Rattle.core_theory.proofs.KernelOrMissing.{KernelHas, kernel_or_missing}
