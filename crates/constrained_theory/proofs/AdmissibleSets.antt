@@ -19,7 +19,8 @@ pub rest_of : (R I : List ℕ) → IsDistinct R → ((l : ℕ) → In l R → In
 rest_of [] I d h = (I, record { size = omega arith; inside = λ l i. i; all = λ l i. i })
 rest_of (r ∷ R) I d h =
     let t = in_split r I (h r (inl refl)) in
-    go t.0 t.1 t.2 (rest_of R (t.0 ++ t.1) d.1 (λ l i. in_others t.0 r t.1 l (subst (λ L. In l L) t.2 (h l (inr i))) (λ e. d.0 (subst (λ m. In m R) e i))))
+    go t.0 t.1 t.2 (rest_of R (t.0 ++ t.1) d.1
+    (λ l i. in_others t.0 r t.1 l (subst (λ L. In l L) t.2 (h l (inr i))) (λ e. d.0 (subst (λ m. In m R) e i))))
   where
     go : (P Q : List ℕ) → I ≡ P ++ r ∷ Q → (rest : List ℕ) × IsRest R (P ++ Q) rest → (rest : List ℕ) × IsRest (r ∷ R) I rest
     go P Q e (rest, x) = (

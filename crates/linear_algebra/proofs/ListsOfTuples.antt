@@ -35,26 +35,35 @@ module _ (S : Scalars) (F : IsField S) where
 
     pub independent_lists : (vs : List (Tuple (Element S) d)) → IsIndependent_of sp vs → IsIndependent S d (map (list S d) vs)
     independent_lists vs i =
-        independent_from_tuples S F d (map (list S d) vs) (lists-vectors vs) (subst (λ xs. IsIndependent_of sp xs) (sym (tuples-lists vs)) i)
+        independent_from_tuples S F d (map (list S d) vs) (lists-vectors vs)
+        (subst (λ xs. IsIndependent_of sp xs) (sym (tuples-lists vs)) i)
 
     -- the spans of tuples
-    pub span_to_lists : (vs : List (Tuple (Element S) d)) (x : List ℕ) → IsVector S d x → InSpan_of sp vs (tuple S F d x) → InSpan S d (map (list S d) vs) x
+    pub span_to_lists : (vs : List (Tuple (Element S) d)) (x : List ℕ) → IsVector S d x → InSpan_of sp vs (tuple S F d x) →
+        InSpan S d (map (list S d) vs) x
     span_to_lists vs x a h = span_from_tuples S F d (map (list S d) vs) x (lists-vectors vs) a
         (subst (λ xs. InSpan_of sp xs (tuple S F d x)) (sym (tuples-lists vs)) h)
 
-    pub span_from_lists : (vs : List (Tuple (Element S) d)) (x : List ℕ) → InSpan S d (map (list S d) vs) x → InSpan_of sp vs (tuple S F d x)
-    span_from_lists vs x h = subst (λ xs. InSpan_of sp xs (tuple S F d x)) (tuples-lists vs) (span_to_tuples S F d (map (list S d) vs) x (lists-vectors vs) h)
+    pub span_from_lists : (vs : List (Tuple (Element S) d)) (x : List ℕ) → InSpan S d (map (list S d) vs) x →
+        InSpan_of sp vs (tuple S F d x)
+    span_from_lists vs x h = subst (λ xs. InSpan_of sp xs (tuple S F d x)) (tuples-lists vs)
+        (span_to_tuples S F d (map (list S d) vs) x (lists-vectors vs) h)
 
     -- a tuple in the span of vectors
-    pub spanned_list : (us : List (List ℕ)) (v : Tuple (Element S) d) → AreVectors S d us → InSpan_of sp (tuples_of S F d us) v → InSpan S d us (list S d v)
+    pub spanned_list : (us : List (List ℕ)) (v : Tuple (Element S) d) → AreVectors S d us → InSpan_of sp (tuples_of S F d us) v →
+        InSpan S d us (list S d v)
     spanned_list us v a h =
-        span_from_tuples S F d us (list S d v) a (list-vector S d v) (subst (λ t. InSpan_of sp (tuples_of S F d us) t) (sym (tuple-list S F d v)) h)
+        span_from_tuples S F d us (list S d v) a (list-vector S d v)
+        (subst (λ t. InSpan_of sp (tuples_of S F d us) t) (sym (tuple-list S F d v)) h)
 
-    pub spanned_tuple : (us : List (List ℕ)) (v : Tuple (Element S) d) → AreVectors S d us → InSpan S d us (list S d v) → InSpan_of sp (tuples_of S F d us) v
-    spanned_tuple us v a h = subst (λ t. InSpan_of sp (tuples_of S F d us) t) (tuple-list S F d v) (span_to_tuples S F d us (list S d v) a h)
+    pub spanned_tuple : (us : List (List ℕ)) (v : Tuple (Element S) d) → AreVectors S d us → InSpan S d us (list S d v) →
+        InSpan_of sp (tuples_of S F d us) v
+    spanned_tuple us v a h = subst (λ t. InSpan_of sp (tuples_of S F d us) t) (tuple-list S F d v)
+        (span_to_tuples S F d us (list S d v) a h)
 
     -- vectors whose span lies in that of others
-    pub within_tuples : (us vs : List (List ℕ)) → AreVectors S d us → AreVectors S d vs → ((x : List ℕ) → InSpan S d us x → InSpan S d vs x) →
+    pub within_tuples : (us vs : List (List ℕ)) → AreVectors S d us → AreVectors S d vs →
+        ((x : List ℕ) → InSpan S d us x → InSpan S d vs x) →
         Within sp (tuples_of S F d us) (tuples_of S F d vs)
     within_tuples us vs a b h = record {
       each = λ v j. let o = In_map-from (tuple S F d) v us j in

@@ -14,22 +14,23 @@ use Rattle.parity_theory.proofs.Parts.{halves, has, has_in, hits, in_has}
 use Rattle.vector_spaces.proofs.Members.{In}
 
 -- a part put before others, if it has a member
-pub kept : List ℕ → List (List ℕ) → List (List ℕ)
+kept : List ℕ → List (List ℕ) → List (List ℕ)
 kept [] parts = parts
 kept (m ∷ part) parts = (m ∷ part) ∷ parts
 
-pub kept_all : (P : List ℕ → Type 0) (part : List ℕ) (parts : List (List ℕ)) → P part → All P parts → All P (kept part parts)
+kept_all : (P : List ℕ → Type 0) (part : List ℕ) (parts : List (List ℕ)) → P part → All P parts → All P (kept part parts)
 unfolding kept
 kept_all P [] parts h k = k
 kept_all P (m ∷ part) parts h k = All-cons P (m ∷ part) parts h k
 
-pub kept_nonempty : (part : List ℕ) (parts : List (List ℕ)) → All (λ x. x ≢ []) parts → All (λ x. x ≢ []) (kept part parts)
+kept_nonempty : (part : List ℕ) (parts : List (List ℕ)) → All (λ x. x ≢ []) parts → All (λ x. x ≢ []) (kept part parts)
 unfolding kept
 kept_nonempty [] parts k = k
-kept_nonempty (m ∷ part) parts k = All-cons (λ x. x ≢ []) (m ∷ part) parts (λ e. let z : suc (length part) ≡ 0 = ap length e in absurd (omega arith)) k
+kept_nonempty (m ∷ part) parts k =
+    All-cons (λ x. x ≢ []) (m ∷ part) parts (λ e. let z : suc (length part) ≡ 0 = ap length e in absurd (omega arith)) k
 
 -- a sum over them, where the empty list counts nothing
-pub sum-kept : (g : List ℕ → ℕ) (part : List ℕ) (parts : List (List ℕ)) → g [] ≡ 0 → sum_by g (kept part parts) ≡ g part + sum_by g parts
+sum-kept : (g : List ℕ → ℕ) (part : List ℕ) (parts : List (List ℕ)) → g [] ≡ 0 → sum_by g (kept part parts) ≡ g part + sum_by g parts
 unfolding kept
 sum-kept g [] parts e = omega arith
 sum-kept g (m ∷ part) parts e = sum_by-cons g (m ∷ part) parts
@@ -53,7 +54,8 @@ pub parts_in_order-sets : (p : ParityProblem) (ps : List (List ℕ × ℕ)) → 
 unfolding parts_in_order
 parts_in_order-sets p [] = All-nil (IsLineSet p)
 parts_in_order-sets p (x ∷ ps) = kept_all (IsLineSet p) (in_order (length p.lines) x.0) (parts_in_order (length p.lines) ps)
-    (record { increasing = in_order-increases (length p.lines) x.0; within = in_order-within (length p.lines) x.0 }) (parts_in_order-sets p ps)
+    (record { increasing = in_order-increases (length p.lines) x.0; within = in_order-within (length p.lines) x.0 })
+    (parts_in_order-sets p ps)
 
 -- whether a position stands in a part
 has-in_order : (n : ℕ) (L : List ℕ) (m : ℕ) → m < n → has (in_order n L) m ≡ has L m

@@ -40,19 +40,25 @@ module _ (S : Scalars) (p : ParityProblem) (K : List (List ℕ)) where
   pub halves-ranked : (parts : List (List ℕ)) → halves (ranked parts) ≡ sum_by (λ part. part_rank part / 2) parts
   unfolding ranked
   halves-ranked [] = refl
-  halves-ranked (part ∷ parts) = ap (λ n. part_rank part / 2 + n) (halves-ranked parts) ∙ sym (sum_by-cons (λ q. part_rank q / 2) part parts)
+  halves-ranked (part ∷ parts) = ap (λ n. part_rank part / 2 + n) (halves-ranked parts)
+      ∙ sym (sum_by-cons (λ q. part_rank q / 2) part parts)
 
   pub in_part : (parts : List (List ℕ)) (m : ℕ) → 1 ≤ parts_with parts m → InPart m (ranked parts)
   unfolding ranked
   in_part [] m h = absurd (omega arith)
-  in_part (part ∷ parts) m h = go (list_any (λ l. eqb l m) part) refl (sum_by-cons (λ q. cond (list_any (λ l. eqb l m) q) 1 0) part parts) (in_part parts m)
+  in_part (part ∷ parts) m h = go (list_any (λ l. eqb l m) part) refl (sum_by-cons (λ q. cond (list_any (λ l. eqb l m) q) 1 0) part parts)
+      (in_part parts m)
     where
-      go : (b : Bool) → list_any (λ l. eqb l m) part ≡ b → parts_with (part ∷ parts) m ≡ cond (list_any (λ l. eqb l m) part) 1 0 + parts_with parts m → (1 ≤ parts_with parts m → InPart m (ranked parts)) → In m part ⊎ InPart m (ranked parts)
+      go : (b : Bool) → list_any (λ l. eqb l m) part ≡ b →
+          parts_with (part ∷ parts) m ≡ cond (list_any (λ l. eqb l m) part) 1 0 + parts_with parts m →
+          (1 ≤ parts_with parts m → InPart m (ranked parts)) → In m part ⊎ InPart m (ranked parts)
       go true e s ih = inl (has_in part m (sym (any-has part m) ∙ e))
-      go false e s ih = inr (ih (let z : cond {A = ℕ} (list_any (λ l. eqb l m) part) 1 0 ≡ 0 = ap (λ b. cond {A = ℕ} b 1 0) e in omega arith))
+      go false e s ih = inr (ih (let z : cond {A = ℕ} (list_any (λ l. eqb l m) part) 1 0 ≡ 0 = ap (λ b. cond {A = ℕ} b 1 0) e in
+          omega arith))
 
 module _ (S : Scalars) (F : IsField S) (p : ParityProblem) (P : IsProblem S p) where
-  pub parts_over : (K : List (List ℕ)) (parts : List (List ℕ)) → AreVectors S p.dimension K → IsIndependent S p.dimension K → All (IsLineSet p) parts →
+  pub parts_over : (K : List (List ℕ)) (parts : List (List ℕ)) → AreVectors S p.dimension K → IsIndependent S p.dimension K →
+      All (IsLineSet p) parts →
       PartsOver (space S F p.dimension) (tuples_at S F p) (tuples_of S F p.dimension K) (ranked S p K parts)
   unfolding ranked
   parts_over K [] k i h = tt
