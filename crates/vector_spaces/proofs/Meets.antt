@@ -29,7 +29,8 @@ module _ {K V : Type 0} {f : Field K} (s : Space f V) where
   open s use {null, ◌⊕◌, ◌·◌}
 
   -- news are independent over vs, xs in the span of vs, and both together span ws: xs span the meeting of vs and ws
-  pub meet_within : (vs news xs ws : List V) (x : V) → IsIndependent s (vs ++ news) → Within s xs vs → Within s ws (xs ++ news) → InSpan s vs x → InSpan s ws x → InSpan s xs x
+  pub meet_within : (vs news xs ws : List V) (x : V) → IsIndependent s (vs ++ news) → Within s xs vs → Within s ws (xs ++ news) →
+      InSpan s vs x → InSpan s ws x → InSpan s xs x
   meet_within vs news xs ws x i hx hw c k =
       let r = span_split s xs news x (through s ws (xs ++ news) x hw k) in
       let e : x ≡ r.1 ⊕ r.0 = r.4 ∙ s.plus_comm r.0 r.1 in
@@ -39,15 +40,19 @@ module _ {K V : Type 0} {f : Field K} (s : Space f V) where
 
   -- w of ws is the sum of x of xs and n of the span of news
   pub old_in : (news xs : List V) (w x n : V) → In x xs → InSpan s news n → w ≡ x ⊕ n → InSpan s (xs ++ news) w
-  old_in news xs w x n i h e = subst (λ t. InSpan s (xs ++ news) t) (sym e) (span_plus f s (xs ++ news) x n (left_in s xs news x (span_member f s xs x i)) (right_in s xs news n h))
+  old_in news xs w x n i h e = subst (λ t. InSpan s (xs ++ news) t) (sym e)
+      (span_plus f s (xs ++ news) x n (left_in s xs news x (span_member f s xs x i)) (right_in s xs news n h))
 
   -- so that x is in the span of ws, if the new ones are
   pub meet_in : (news ws : List V) (w x n : V) → Within s news ws → In w ws → InSpan s news n → w ≡ x ⊕ n → InSpan s ws x
-  meet_in news ws w x n h i k e = subst (λ t. InSpan s ws t) (move f s w n x e) (span_minus f s ws w n (span_member f s ws w i) (through s news ws n h k))
+  meet_in news ws w x n h i k e = subst (λ t. InSpan s ws t) (move f s w n x e)
+      (span_minus f s ws w n (span_member f s ws w i) (through s news ws n h k))
 
   -- and xs is independent where ws is
-  pub meet_independent : (news xs ws : List V) → IsIndependent s ws → Within s ws (xs ++ news) → length xs + length news ≤ length ws → IsIndependent s xs
-  meet_independent news xs ws i h e = independent_left s xs news (same_length_independent s ws (xs ++ news) i h (let k = length-append xs news in omega arith))
+  pub meet_independent : (news xs ws : List V) → IsIndependent s ws → Within s ws (xs ++ news) → length xs + length news ≤ length ws →
+      IsIndependent s xs
+  meet_independent news xs ws i h e =
+      independent_left s xs news (same_length_independent s ws (xs ++ news) i h (let k = length-append xs news in omega arith))
 
   -- u and v are independent, and so are vs, but not both together: the spans have a vector in common that is not null
   pub common_vector : (u v : V) (vs : List V) → IsIndependent s (u ∷ v ∷ []) → IsIndependent s vs → ¬ (IsIndependent s (u ∷ v ∷ vs)) →

@@ -62,17 +62,20 @@ module _ {K : Type 0} (f : Field K) where
     module _ (p : Tuple K (suc d)) (n : at f (suc d) i p ≢ o) where
       -- the tuples modulo p
       pub tuple_quotient : Quotient (tuples f (suc d)) (tuples f d) p
-      tuple_quotient = coordinate_quotient (tuples f (suc d)) (tuples f d) (at f (suc d) i) (tuple_without d i) (tuple_with_zero f d i) tuple_coordinate p n
+      tuple_quotient = coordinate_quotient (tuples f (suc d)) (tuples f d) (at f (suc d) i) (tuple_without d i)
+          (tuple_with_zero f d i) tuple_coordinate p n
 
       -- the projection by any factor that clears the coordinate
       pub tuple_quotient-project : (v : Tuple K (suc d)) (c : K) → f.◌⊞◌ (f.◌⊠◌ c (at f (suc d) i p)) (at f (suc d) i v) ≡ o →
           tuple_quotient.project v ≡ tuple_without d i ((tuples f (suc d)).◌⊕◌ v ((tuples f (suc d)).◌·◌ c p))
       unfolding tuple_quotient
-      tuple_quotient-project v c e = coordinate_quotient-project (tuples f (suc d)) (tuples f d) (at f (suc d) i) (tuple_without d i) (tuple_with_zero f d i) tuple_coordinate p n v c e
+      tuple_quotient-project v c e = coordinate_quotient-project (tuples f (suc d)) (tuples f d) (at f (suc d) i) (tuple_without d i)
+          (tuple_with_zero f d i) tuple_coordinate p n v c e
 
       pub tuple_quotient-lift : (w : Tuple K d) → tuple_quotient.lift w ≡ tuple_with_zero f d i w
       unfolding tuple_quotient
-      tuple_quotient-lift w = coordinate_quotient-lift (tuples f (suc d)) (tuples f d) (at f (suc d) i) (tuple_without d i) (tuple_with_zero f d i) tuple_coordinate p n w
+      tuple_quotient-lift w = coordinate_quotient-lift (tuples f (suc d)) (tuples f d) (at f (suc d) i) (tuple_without d i)
+          (tuple_with_zero f d i) tuple_coordinate p n w
 
 module _ {K : Type 0} (f : Field K) where
   -- a tuple that is not null is not zero at some coordinate
