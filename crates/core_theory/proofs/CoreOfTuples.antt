@@ -1,17 +1,18 @@
 -- In tuples over a finite field nothing need be supposed: each independent set of k lines belongs to a family with its core.
 use Rattle.std.proofs.Common.{◌≡◌, ◌≢◌, ℕ, zero, suc, ◌≤◌, ◌⊎◌, List, refl}
 use Rattle.augmentation_theory.proofs.MinMax.{min_max}
-use Rattle.augmentation_theory.proofs.Missing.{MissingSet}
+use Rattle.augmentation_theory.proofs.Missing.{MissingSet, kernel_or_missing}
 use Rattle.vector_spaces.proofs.TupleQuotients.{quotient_of_tuples}
 use Rattle.class_theory.proofs.LinesBelow.{IsLineSet}
 use Rattle.core_theory.proofs.Core.{Core, core_of_set}
-use Rattle.core_theory.proofs.KernelOrMissing.{KernelHas, kernel_or_missing}
+use Rattle.augmentation_theory.proofs.Certified.{KernelHas}
 use Rattle.parity_theory.proofs.Lines.{vectors}
 use Rattle.vector_spaces.proofs.Independence.{IsIndependent}
 use Rattle.vector_spaces.proofs.Space.{Field}
 use Rattle.vector_spaces.proofs.Tuples.{Tuple, tuples}
 
-module _ {K : Type 0} (f : Field K) (d : ℕ) (line : ℕ → Tuple K d × Tuple K d) (n k : ℕ) (beyond : (i : ℕ) → n ≤ i → (line i).0 ≡ (tuples f d).null)
+module _ {K : Type 0} (f : Field K) (d : ℕ) (line : ℕ → Tuple K d × Tuple K d) (n k : ℕ)
+    (beyond : (i : ℕ) → n ≤ i → (line i).0 ≡ (tuples f d).null)
     (M : List ℕ) (a : IsLineSet n k M) (i : IsIndependent (tuples f d) (vectors line M)) where
   pub tuple_core : Core (tuples f d) line n k
   tuple_core = core_of_set (tuples f d) line n k (λ p z. at_point d line beyond a i p z) M a i
