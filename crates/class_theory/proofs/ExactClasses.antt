@@ -7,7 +7,7 @@ use Rattle.class_theory.proofs.Components.{passes_or_stray}
 use Rattle.class_theory.proofs.Families.{IsFamily, progress_grows, separating}
 use Rattle.class_theory.proofs.Labels.{AreExact, label}
 use Rattle.class_theory.proofs.LinesBelow.{IsListing, IsLineSet}
-use Rattle.class_theory.proofs.Separations.{Progress, Parted, wide_of_parted, spread}
+use Rattle.class_theory.proofs.Separations.{Progress, Separates, wide_of_separates, spread}
 use Rattle.class_theory.proofs.TurnEnds.{ends_of, TurnEnd}
 use Rattle.parity_theory.proofs.Entries.{at_in}
 use Rattle.parity_theory.proofs.Exposure.{Exposed, exposed_line_independent}
@@ -74,10 +74,10 @@ module _ {K V : Type 0} {f : Field K} {s : Space f V} {line : ℕ → V × V} {n
 
   -- two live lines with other labels: a set of the family separates them
   pub labels_separated : (e g : ℕ) → e < n → g < n → F.live e ≡ true → F.live g ≡ true → class e ≢ class g → (N : List ℕ) × In N F.family ×
-      Parted s line N e g
+      Separates s line N e g
   labels_separated e g a b u v m = go (cases_Bool (F.akin e g))
     where
-      go : (F.akin e g ≡ true) ⊎ (F.akin e g ≡ false) → (N : List ℕ) × In N F.family × Parted s line N e g
+      go : (F.akin e g ≡ true) ⊎ (F.akin e g ≡ false) → (N : List ℕ) × In N F.family × Separates s line N e g
       go (inl y) = absurd (m ((F.exact e a g b).labelled y))
       go (inr y) = separating F.is_family e g a b u v y
 
@@ -90,7 +90,7 @@ module _ {K V : Type 0} {f : Field K} {s : Space f V} {line : ℕ → V × V} {n
       let r = labels_separated e g l (b g j)
       (live_of_independent e l (exposed_line_independent s line M e t o cs x))
       (live_of_independent g (b g j) (line_independent s line M g i j)) m in
-      (r.0, r.1, wide_of_parted s line r.0 e g r.2)
+      (r.0, r.1, wide_of_separates s line r.0 e g r.2)
 
 module _ {K : Type 0} (f : Field K) where
   -- the support of a line leaves its class, or lies in it

@@ -6,8 +6,9 @@ use Rattle.parity_theory.proofs.LineSets.{independent_distinct, line_independent
 use Rattle.parity_theory.proofs.Lines.{vectors, Misses}
 use Rattle.parity_theory.proofs.Places.{Place, inside, single, exposed, free, HasPlace, place_of_a_line, place_is_unique, tip_of_exposed, exposed_of_tip}
 use Rattle.parity_theory.proofs.Supports.{HaveCommonLine, decide_common_line}
+use Rattle.parity_theory.proofs.Widths.{two_missed}
 use Rattle.vector_spaces.proofs.Distinct.{IsDistinct}
-use Rattle.vector_spaces.proofs.Independence.{IsIndependent, append_outside, appended_is_outside, same_length_independent}
+use Rattle.vector_spaces.proofs.Independence.{IsIndependent, appended_is_outside, same_length_independent}
 use Rattle.vector_spaces.proofs.Members.{In}
 use Rattle.vector_spaces.proofs.Space.{Field, Space}
 use Rattle.vector_spaces.proofs.Span.{InSpan, decide_span}
@@ -34,8 +35,7 @@ module _ {K V : Type 0} {f : Field K} (s : Space f V) (line : ℕ → V × V) (M
       go : Dec (InSpan s (vectors line M ++ u ∷ []) w) → Dec (Misses s line M (u ∷ w ∷ []))
       go (yes c) = no (λ j. appended_is_outside s (vectors line M ++ u ∷ []) w
           (subst (λ vs. IsIndependent s vs) (sym (append_assoc (vectors line M) (u ∷ []) (w ∷ []))) j) c)
-      go (no n) = yes (subst (λ vs. IsIndependent s vs) (append_assoc (vectors line M) (u ∷ []) (w ∷ []))
-          (append_outside s (vectors line M ++ u ∷ []) w i n))
+      go (no n) = yes (two_missed s line M u w i n)
 
   -- whichever tips and outers there are, they tell whether e and h overlap
   module _ (e : ℕ) (tip outer : V) (cs : List (K × K)) (x : Exposed s line M e tip outer cs) (h : ℕ) (tip' outer' : V) (cs' : List (K × K))
