@@ -1,7 +1,7 @@
 -- Problems whose lines are those of the members of a list, in order.
-use Rattle.std.proofs.Common.{◌≡◌, ℕ, ◌<◌, List, [], length, get_or, map, sym, ap, ◌∙◌, subst}
+use Rattle.std.proofs.Common.{◌≡◌, ℕ, ◌<◌, List, [], length, get_or, map, ap, ◌∙◌, subst}
 use Rattle.std.proofs.lemmas.List.{length-map, get_or-map}
-use Rattle.vector_spaces.proofs.Members.{In, In-get_or}
+use Rattle.vector_spaces.proofs.Members.{In-get_or}
 use Rattle.parity_lines.specs.Problems.{ParityProblem, line_at}
 use Rattle.graph_theory.specs.Counts.{InRange}
 use Rattle.graph_theory.specs.Walks.{edge_at}
