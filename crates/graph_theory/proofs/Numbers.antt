@@ -61,4 +61,3 @@ filter_distinct p (x ∷ xs) d = go (cases_Bool (p x)) (filter_distinct p xs d.1
 pub map_distinct : {X Y : Type 0} (g : X → Y) (xs : List X) → ((x y : X) → g x ≡ g y → x ≡ y) → IsDistinct xs → IsDistinct (map g xs)
 map_distinct g [] h d = tt
 map_distinct g (x ∷ xs) h d = ((λ i. let r = In_map-from g (g x) xs i in d.0 (subst (λ z. In z xs) (sym (h x r.0 r.2)) r.1)), map_distinct g xs h d.1)
-
