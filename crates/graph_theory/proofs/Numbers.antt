@@ -9,7 +9,11 @@ use Rattle.graph_theory.specs.Numbers.{numbers_from}
 
 pub numbers_in : (k c x : ℕ) → k ≤ x → x < k + c → In x (numbers_from k c)
 numbers_in k zero x l h = absurd (omega arith)
-numbers_in k (suc c) x l h = elim (ℕ_discrete x k) [ yes e ↦ inl e | no n ↦ inr (numbers_in (suc k) c x (let q = n in omega arith) (omega arith)) ]
+numbers_in k (suc c) x l h = elim (ℕ_discrete x k) [
+  | yes e ↦ inl e
+  | no n ↦ inr
+      (numbers_in (suc k) c x (let q = n in omega arith) (omega arith))
+]
 
 pub in_numbers : (k c x : ℕ) → In x (numbers_from k c) → (k ≤ x) × (x < k + c)
 in_numbers k zero x i = absurd i
@@ -60,4 +64,8 @@ filter_distinct p (x ∷ xs) d = go (cases_Bool (p x)) (filter_distinct p xs d.1
 
 pub map_distinct : {X Y : Type 0} (g : X → Y) (xs : List X) → ((x y : X) → g x ≡ g y → x ≡ y) → IsDistinct xs → IsDistinct (map g xs)
 map_distinct g [] h d = tt
-map_distinct g (x ∷ xs) h d = ((λ i. let r = In_map-from g (g x) xs i in d.0 (subst (λ z. In z xs) (sym (h x r.0 r.2)) r.1)), map_distinct g xs h d.1)
+map_distinct g (x ∷ xs) h d = (
+  (λ i. let r = In_map-from g (g x) xs i in
+      d.0 (subst (λ z. In z xs) (sym (h x r.0 r.2)) r.1)),
+  map_distinct g xs h d.1,
+)

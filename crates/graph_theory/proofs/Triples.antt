@@ -22,7 +22,8 @@ before_at (t ∷ Ts) h i zero l k = absurd (omega arith)
 before_at (t ∷ Ts) h zero (suc j) l k = h.0 (triple_at Ts j) (In-get_or Ts j (0, 0, 0) (omega arith))
 before_at (t ∷ Ts) h (suc i) (suc j) l k = before_at Ts h.1 i j (omega arith) (omega arith)
 
-pub lexicographic_at : (Ts : List (ℕ × ℕ × ℕ)) → IsLexicographic Ts → (L : List ℕ) → IsStrictlyIncreasing L → ((i : ℕ) → In i L → i < length Ts) →
+pub lexicographic_at : (Ts : List (ℕ × ℕ × ℕ)) → IsLexicographic Ts → (L : List ℕ) → IsStrictlyIncreasing L →
+    ((i : ℕ) → In i L → i < length Ts) →
     IsLexicographic (map (triple_at Ts) L)
 lexicographic_at Ts h [] s b = tt
 lexicographic_at Ts h (i ∷ L) s b =
