@@ -1,0 +1,6 @@
+pub mod Cuts
+pub mod Cographic
+pub mod TwoElements
+pub mod CographicSpace
+pub mod CographicTuples
+pub mod PairLines

@@ -1,0 +1,7 @@
+pub mod Occurrences
+pub mod ListSplits
+pub mod Connections
+pub mod SameEdges
+pub mod SpanningForests
+pub mod EdgeWalks
+pub mod EdgePairs
