@@ -2,6 +2,6 @@
 use Rattle.std.specs.Prelude.{◌≡◌, ◌⊎◌, ℕ, List, [], ◌∷◌}
 
 -- the edges of p lead from u to v
-abbrev pub EdgeWalk : (ℕ → ℕ) → (ℕ → ℕ) → ℕ → List ℕ → ℕ → Type 0
-EdgeWalk a b u [] v = u ≡ v
-EdgeWalk a b u (e ∷ p) v = ((a e ≡ u) × EdgeWalk a b (b e) p v) ⊎ ((b e ≡ u) × EdgeWalk a b (a e) p v)
+abbrev pub EdgeWalk : (ℕ → ℕ × ℕ) → ℕ → List ℕ → ℕ → Type 0
+EdgeWalk ends u [] v = u ≡ v
+EdgeWalk ends u (e ∷ p) v = (((ends e).0 ≡ u) × EdgeWalk ends (ends e).1 p v) ⊎ (((ends e).1 ≡ u) × EdgeWalk ends (ends e).0 p v)
