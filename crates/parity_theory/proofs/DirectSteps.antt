@@ -1,5 +1,5 @@
 -- The two-line step, said of the members of the sets: where M without m and with e and h is independent.
-use Rattle.std.proofs.Common.{◌≡◌, ◌≢◌, ℕ, suc, inl, inr, List, [], ◌∷◌, ◌++◌, length, sym, subst, arith}
+use Rattle.std.proofs.Common.{◌≡◌, ◌≢◌, ℕ, suc, inl, inr, List, [], ◌∷◌, ◌++◌, length, refl, sym, subst, arith}
 use Rattle.std.proofs.Math.Decide.{ℕ_discrete}
 use Rattle.parity_theory.proofs.Entries.{aligned, At}
 use Rattle.parity_theory.proofs.Exposure.{Exposed, IsExposed, exposed_base}
@@ -35,6 +35,28 @@ step_from P m Q e h N w l i = go (ℕ_discrete l e) (ℕ_discrete l h)
     go (yes a) b = inl a
     go (no a) (yes b) = inr (inl b)
     go (no a) (no b) = let r = w.only l i a b in inr (inr (in_others P m Q l r.0 r.1))
+
+-- M without m, with e and h in front
+step_in_front : (P : List ℕ) (m : ℕ) (Q : List ℕ) (e h : ℕ) → IsDistinct (P ++ m ∷ Q) → IsStep (P ++ m ∷ Q) m e h (e ∷ h ∷ P ++ Q)
+step_in_front P m Q e h d = record {
+  first_new = inl refl;
+  second_new = inr (inl refl);
+  kept = λ l i n. inr (inr (in_others P m Q l i n));
+  only = λ l i n k. elim i [
+    | inl q ↦ absurd (n q)
+    | inr j ↦ elim j [
+      | inl q ↦ absurd
+          (k q)
+      | inr i ↦ (middle_in P m Q l (inr i), λ q. distinct_middle P m Q d (subst (λ t. In t (P ++ Q)) q i))
+    ]
+  ];
+  longer = (let c = length-middle P m Q in omega arith);
+}
+
+-- so some list is
+pub some_step : (M : List ℕ) (m e h : ℕ) → IsDistinct M → In m M → (N : List ℕ) × IsStep M m e h N
+some_step M m e h d i = let r = in_split m M i in
+    (e ∷ h ∷ r.0 ++ r.1, subst (λ t. IsStep t m e h (e ∷ h ∷ r.0 ++ r.1)) (sym r.2) (step_in_front r.0 m r.1 e h (subst (λ t. IsDistinct t) r.2 d)))
 
 module _ {K V : Type 0} {f : Field K} (s : Space f V) (line : ℕ → V × V) (M N : List ℕ) (m e h : ℕ) (w : IsStep M m e h N) where
   open f use {zero as o}

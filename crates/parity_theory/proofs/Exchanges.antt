@@ -1,5 +1,6 @@
 -- An exposed line takes the place of a line of its tip's support; a free line comes in.
 use Rattle.std.proofs.Common.{◌≡◌, ◌≢◌, ℕ, suc, ◌≤◌, ◌⊎◌, inl, inr, List, [], ◌∷◌, ◌++◌, length, sym, subst, arith, append-nil, refl}
+use Rattle.std.proofs.Math.Decide.{ℕ_discrete}
 use Rattle.std.proofs.lemmas.List.{length-append}
 use Rattle.parity_theory.proofs.Coordinates.{pivot_line}
 use Rattle.parity_theory.proofs.Entries.{at_split}
@@ -11,7 +12,7 @@ use Rattle.parity_theory.proofs.Supports.{InSupport}
 use Rattle.vector_spaces.proofs.Distinct.{IsDistinct, distinct_middle}
 use Rattle.vector_spaces.proofs.Independence.{IsIndependent, same_length_independent, independent_left, independent_right, span_decidable}
 use Rattle.vector_spaces.proofs.Members.{In}
-use Rattle.vector_spaces.proofs.Middles.{length-middle, middle_in, in_others}
+use Rattle.vector_spaces.proofs.Middles.{length-middle, middle_in, in_others, in_split}
 use Rattle.vector_spaces.proofs.Pairs.{NonZero}
 use Rattle.vector_spaces.proofs.Space.{Field, Space}
 use Rattle.vector_spaces.proofs.Span.{InSpan}
@@ -39,6 +40,15 @@ swap_in_front P m Q e d = record {
   only = λ l i n. elim i [ inl q ↦ absurd (n q) | inr j ↦ (middle_in P m Q l (inr j), λ q. distinct_middle P m Q d (subst (λ t. In t (P ++ Q)) q j)) ];
   same_length = sym (length-middle P m Q);
 }
+
+-- some list is M without m and with e
+pub some_swap : (M : List ℕ) (m e : ℕ) → IsDistinct M → In m M → (N : List ℕ) × IsSwap M m e N
+some_swap M m e d i = let r = in_split m M i in
+    (e ∷ r.0 ++ r.1, subst (λ t. IsSwap t m e (e ∷ r.0 ++ r.1)) (sym r.2) (swap_in_front r.0 m r.1 e (subst (λ t. IsDistinct t) r.2 d)))
+
+-- a line of the new list is the one that came in, or of the old one
+pub swapped_from : (M : List ℕ) (m h : ℕ) (M' : List ℕ) → IsSwap M m h M' → (l : ℕ) → In l M' → (l ≡ h) ⊎ In l M
+swapped_from M m h M' w l i = elim (ℕ_discrete l h) [ yes e ↦ inl e | no n ↦ inr (w.only l i n).0 ]
 
 module _ {K V : Type 0} {f : Field K} (s : Space f V) (line : ℕ → V × V) where
   -- N has the lines of M but m, and e; what M and e's outer miss together, N misses

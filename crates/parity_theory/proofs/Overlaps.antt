@@ -1,14 +1,17 @@
--- Overlaps: two exposed lines whose outers are independent over M, and whose supports have a common line.
-use Rattle.std.proofs.Common.{◌≢◌, ℕ, List, [], ◌∷◌, ◌++◌, append_assoc, subst, arith, sym}
+-- Overlaps: two exposed lines whose outers are independent over M, and whose supports have a common line; the lines of an overlap.
+use Rattle.std.proofs.Common.{◌≢◌, ℕ, inl, inr, List, [], ◌∷◌, ◌++◌, append_assoc, refl, subst, arith, sym}
 use Rattle.std.proofs.lemmas.List.{length-append}
-use Rattle.parity_theory.proofs.Exposure.{Exposed, same_support, same_outers}
+use Rattle.parity_theory.proofs.Exposure.{Exposed, same_support, same_outers, exposed_base, exposed_line_independent, exposed_not_in, exposed_within}
+use Rattle.parity_theory.proofs.LineSets.{independent_distinct, line_independent}
 use Rattle.parity_theory.proofs.Lines.{vectors, Misses}
 use Rattle.parity_theory.proofs.Places.{Place, inside, single, exposed, free, HasPlace, place_of_a_line, place_is_unique, tip_of_exposed, exposed_of_tip}
 use Rattle.parity_theory.proofs.Supports.{HaveCommonLine, decide_common_line}
+use Rattle.vector_spaces.proofs.Distinct.{IsDistinct}
 use Rattle.vector_spaces.proofs.Independence.{IsIndependent, append_outside, appended_is_outside, same_length_independent}
+use Rattle.vector_spaces.proofs.Members.{In}
 use Rattle.vector_spaces.proofs.Space.{Field, Space}
 use Rattle.vector_spaces.proofs.Span.{InSpan, decide_span}
-use Rattle.vector_spaces.proofs.Within.{placing}
+use Rattle.vector_spaces.proofs.Within.{Within, placing, through}
 
 -- with some tips and outers
 pub record Overlap {K V : Type 0} {f : Field K} (s : Space f V) (line : ℕ → V × V) (M : List ℕ) (e h : ℕ) : Type 0 where
@@ -89,3 +92,29 @@ module _ {K V : Type 0} {f : Field K} (s : Space f V) (line : ℕ → V × V) (M
     outers = same_length_independent s (vectors line M ++ r.outer ∷ r.outer' ∷ []) (vectors line M ++ r.outer' ∷ r.outer ∷ []) r.outers (search placing depth 8) (omega (arith, length-append {A = V}));
     common = (r.common.0, r.common.2, r.common.1);
   }
+
+-- e and h and the lines of M: distinct, and each of two independent vectors
+module _ {K V : Type 0} {f : Field K} (s : Space f V) (line : ℕ → V × V) (M : List ℕ) (e h : ℕ) (ov : Overlap s line M e h) where
+  pub overlap_base : IsIndependent s (vectors line M)
+  overlap_base = exposed_base s line M e ov.tip ov.outer ov.cs ov.first
+
+  -- two different lines, since their outers are independent over M
+  pub overlapping_differ : e ≢ h
+  overlapping_differ z = appended_is_outside s (vectors line M ++ ov.outer ∷ []) ov.outer'
+      (subst (λ vs. IsIndependent s vs) (sym (append_assoc (vectors line M) (ov.outer ∷ []) (ov.outer' ∷ []))) ov.outers)
+      (through s (vectors line (h ∷ [])) (vectors line M ++ ov.outer ∷ []) ov.outer'
+      (subst (λ t. Within s (vectors line (t ∷ [])) (vectors line M ++ ov.outer ∷ [])) z (exposed_within s line M e ov.tip ov.outer ov.cs ov.first))
+      (ov.second.tip_outer_in.each ov.outer' (inr (inl refl))))
+
+  pub overlap_distinct : IsDistinct (e ∷ h ∷ M)
+  overlap_distinct = (
+    λ i. elim i [ inl z ↦ overlapping_differ z | inr j ↦ exposed_not_in s line M e ov.tip ov.outer ov.cs ov.first j ],
+    (exposed_not_in s line M h ov.tip' ov.outer' ov.cs' ov.second, independent_distinct s line M overlap_base),
+  )
+
+  pub overlap_line_independent : (l : ℕ) → In l (e ∷ h ∷ M) → IsIndependent s (vectors line (l ∷ []))
+  overlap_line_independent l (inl z) = subst (λ t. IsIndependent s (vectors line (t ∷ []))) (sym z)
+      (exposed_line_independent s line M e ov.tip ov.outer ov.cs ov.first)
+  overlap_line_independent l (inr (inl z)) = subst (λ t. IsIndependent s (vectors line (t ∷ []))) (sym z)
+      (exposed_line_independent s line M h ov.tip' ov.outer' ov.cs' ov.second)
+  overlap_line_independent l (inr (inr i)) = line_independent s line M l overlap_base i

@@ -83,6 +83,11 @@ pub count_by_parts_le : (I : List ℕ) (ps : List (List ℕ × ℕ)) → ((l : �
 count_by_parts_le [] ps h = omega arith
 count_by_parts_le (l ∷ I) ps h = let e = in_parts-cons l I ps in let k = hits_of l ps (h l (inl refl)) in let ih = count_by_parts_le I ps (λ x i. h x (inr i)) in omega arith
 
+-- each in one part
+pub count_by_parts : (I : List ℕ) (ps : List (List ℕ × ℕ)) → ((l : ℕ) → In l I → hits l ps ≡ 1) → length I ≡ in_parts I ps
+count_by_parts [] ps h = sym (in_parts-nil ps)
+count_by_parts (l ∷ I) ps h = let e = in_parts-cons l I ps in let k = h l (inl refl) in let ih = count_by_parts I ps (λ x i. h x (inr i)) in omega arith
+
 pub sub_behind : {X : Type 0} (ws us vs : List X) → IsSublist us vs → IsSublist (ws ++ us) (ws ++ vs)
 sub_behind [] us vs h = h
 sub_behind (w ∷ ws) us vs h = inr (ws ++ us, refl, sub_behind ws us vs h)

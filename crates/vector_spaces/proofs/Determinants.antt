@@ -18,7 +18,7 @@ module _ {K : Type 0} (f : Field K) where
   infixl 70 ◌⊠◌
   open f use {zero as o, one, minus, ◌⊞◌, ◌⊠◌, inv}
 
-  of_minus : (x : K) → minus ⊠ x ≡ o → x ≡ o
+  pub of_minus : (x : K) → minus ⊠ x ≡ o → x ≡ o
   of_minus x e = sym (minus-minus f (line f) x) ∙ ap (λ z. minus ⊠ z) e ∙ f.mul-zero minus
 
   -- the determinant is not zero, or the pairs are proportional
