@@ -1,7 +1,7 @@
 -- The size of a largest independent set of pairs of edges is the maximum genus.
 use Rattle.std.proofs.Common.{◌≡◌, ℕ, List, length}
 use Rattle.vector_spaces.proofs.Space.{Field, Space}
-use Rattle.edge_lists.specs.Connections.{Connected, IsGraph}
+use Rattle.edge_lists.specs.Connections.{IsConnected, IsGraph}
 use Rattle.edge_lists.specs.EdgePairs.{ListsPairs}
 use Rattle.cographic_theory.proofs.CographicSpace.{IsCographic}
 use Rattle.cographic_theory.proofs.PairLines.{IsLargestSet, largest_of_most, most_of_largest}
@@ -9,7 +9,7 @@ use Rattle.rotation_theory.specs.MaximumGenus.{IsMaximumGenus}
 use Rattle.rotation_theory.proofs.MaximumGenus.{maximum_of_most, most_of_maximum}
 
 module _ (ends : ℕ → ℕ × ℕ) (n : ℕ) (E : List ℕ) (graph : IsGraph ends n E) (pair : ℕ → ℕ × ℕ) (m : ℕ) (Q : ListsPairs ends E pair m) (T : List ℕ) {K V : Type 0}
-    (f : Field K) (s : Space f V) (row : ℕ → V) (G : IsCographic ends E T f s row) (C : Connected ends n E) where
+    (f : Field K) (s : Space f V) (row : ℕ → V) (G : IsCographic ends E T f s row) (C : IsConnected ends n E) where
   abbrev IsLargest : List ℕ → Type 0
   IsLargest = IsLargestSet ends n E graph pair m Q T f s row G C
 
