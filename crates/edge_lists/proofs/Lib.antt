@@ -5,3 +5,4 @@ pub mod SameEdges
 pub mod SpanningForests
 pub mod EdgeWalks
 pub mod EdgePairs
+pub mod EachOnce

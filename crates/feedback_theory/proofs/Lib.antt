@@ -1,5 +1,9 @@
+pub mod LeadingEdges
+pub mod Outside
+pub mod Marks
 pub mod FeedbackSets
 pub mod FeedbackReduction
+pub mod MarkedTrees
 pub mod FeedbackPairs
 pub mod Cycles
 pub mod Degrees
