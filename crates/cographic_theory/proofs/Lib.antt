@@ -1,6 +1,6 @@
 pub mod Cuts
-pub mod Cographic
+pub mod CographicRelations
 pub mod TwoElements
-pub mod CographicSpace
+pub mod CographicVectors
 pub mod CographicTuples
 pub mod PairLines

@@ -3,7 +3,7 @@ use Rattle.std.proofs.Common.{◌≡◌, ℕ, List, length}
 use Rattle.vector_spaces.proofs.Space.{Field, Space}
 use Rattle.edge_lists.specs.Connections.{IsConnected, IsGraph}
 use Rattle.edge_lists.specs.EdgePairs.{ListsPairs}
-use Rattle.cographic_theory.proofs.CographicSpace.{IsCographic}
+use Rattle.cographic_theory.proofs.CographicVectors.{IsCographic}
 use Rattle.cographic_theory.proofs.PairLines.{IsLargestSet, largest_of_most, most_of_largest}
 use Rattle.rotation_theory.specs.MaximumGenus.{IsMaximumGenus}
 use Rattle.rotation_theory.proofs.MaximumGenus.{maximum_of_most, most_of_maximum}
