@@ -74,11 +74,13 @@ weight-total [] S cs = weight-none S cs
 weight-total (x ∷ C) S cs = weight-cons x C S cs ∙ ap (λ t. coefficient S cs x + t) (weight-total C S cs)
 
 -- the coefficients of different edges are even where the sums of each edge are
-pub items_even : (S cs : List ℕ) → ((e : ℕ) → count e S ≤ 1) → length cs ≡ length S → ((e : ℕ) → 1 ≤ count e S → coefficient S cs e % 2 ≡ 0) → (c : ℕ)
+pub items_even : (S cs : List ℕ) → ((e : ℕ) → count e S ≤ 1) → length cs ≡ length S
+    → ((e : ℕ) → 1 ≤ count e S → coefficient S cs e % 2 ≡ 0) → (c : ℕ)
     → 1 ≤ count c cs → c % 2 ≡ 0
 items_even S [] D l h c i = absurd (omega (arith, i, count-nil c))
 items_even [] (c ∷ cs) D l h d i = absurd (omega (arith, l, length-cons c cs, length-nil ℕ))
-items_even (s ∷ S) (c ∷ cs) D l h d i = go (ℕ_discrete c d) (λ j. items_even S cs (λ e. omega (arith, D e, count-append e (s ∷ []) S)) (omega (arith, l, length-cons c cs, length-cons s S)) rest d j)
+items_even (s ∷ S) (c ∷ cs) D l h d i = go (ℕ_discrete c d) (λ j. items_even S cs (λ e. omega (arith, D e, count-append e (s ∷ []) S))
+    (omega (arith, l, length-cons c cs, length-cons s S)) rest d j)
   where
     s_out : count s S ≡ 0
     s_out = omega (arith, D s, count-head s S)
@@ -110,7 +112,8 @@ module _ (ends : ℕ → ℕ × ℕ) (E T : List ℕ) (F : AreForest ends T) (pa
     (within : (g c : ℕ) → 1 ≤ count g E → count g T ≡ 0 → 1 ≤ count c (path g) → 1 ≤ count c T)
     (leads : (g : ℕ) → 1 ≤ count g E → count g T ≡ 0 → EdgeWalk ends (ends g).0 (path g) (ends g).1)
     (sub_T : (e : ℕ) → 1 ≤ count e T → 1 ≤ count e E)
-    (S K : List ℕ) (D : (e : ℕ) → count e S ≤ 1) (sub_K : (e : ℕ) → 1 ≤ count e K → 1 ≤ count e E) (sub_S : (e : ℕ) → 1 ≤ count e S → 1 ≤ count e E)
+    (S K : List ℕ) (D : (e : ℕ) → count e S ≤ 1) (sub_K : (e : ℕ) → 1 ≤ count e K → 1 ≤ count e E) (sub_S : (e : ℕ) → 1 ≤ count e S
+    → 1 ≤ count e E)
     (apart : (e : ℕ) → 1 ≤ count e K → count e S ≡ 0) (cover : (e : ℕ) → 1 ≤ count e E → count e K ≡ 0 → 1 ≤ count e S) where
   -- the coefficients cs of the edges of S combine their vectors to zero: the entry of the edge g outside the tree is even
   abbrev pub Vanishes : List ℕ → Type 0
@@ -120,13 +123,16 @@ module _ (ends : ℕ → ℕ × ℕ) (E T : List ℕ) (F : AreForest ends T) (pa
   even_of cs h g i n = let k = h g i n in omega (arith, k, weight-cons g (path g) S cs, weight-total (path g) S cs)
 
   -- where the edges outside S join the ends of every edge, only even coefficients vanish
-  pub represent_independent : ((e : ℕ) → 1 ≤ count e E → Joined ends K (ends e).0 (ends e).1) → (cs : List ℕ) → length cs ≡ length S → Vanishes cs → (c : ℕ)
+  pub represent_independent : ((e : ℕ) → 1 ≤ count e E → Joined ends K (ends e).0 (ends e).1) → (cs : List ℕ) → length cs ≡ length S
+      → Vanishes cs → (c : ℕ)
       → 1 ≤ count c cs → c % 2 ≡ 0
-  represent_independent all cs l h = items_even S cs D l (λ e i. connected_independent ends E T F path within leads K sub_K all (coefficient S cs) (even_of cs h)
+  represent_independent all cs l h = items_even S cs D l (λ e i. connected_independent ends E T F path within leads K sub_K all
+      (coefficient S cs) (even_of cs h)
       (λ e j. ap (λ t. t % 2) (coefficient-none S cs e (apart e j))) e (sub_S e i))
 
   -- where only even coefficients vanish, the edges outside S join all that the graph joins
-  pub represent_connected : ((cs : List ℕ) → length cs ≡ length S → Vanishes cs → (c : ℕ) → 1 ≤ count c cs → c % 2 ≡ 0) → (u v : ℕ) → Joined ends E u v
+  pub represent_connected : ((cs : List ℕ) → length cs ≡ length S → Vanishes cs → (c : ℕ) → 1 ≤ count c cs → c % 2 ≡ 0) → (u v : ℕ)
+      → Joined ends E u v
       → Joined ends K u v
   represent_connected ind u v j = go (ℕ_discrete (label (map ends K) u) (label (map ends K) v))
     where
@@ -134,7 +140,8 @@ module _ (ends : ℕ → ℕ × ℕ) (E T : List ℕ) (F : AreForest ends T) (pa
       go (yes e) = e
       go (no n) = absurd (clash (apart_dependent ends E T F path within leads K u v n j))
         where
-          clash : (f : ℕ → ℕ) × EvenOnCycles ends E T F path within leads f × ((e : ℕ) → 1 ≤ count e K → f e % 2 ≡ 0) × ¬ ((e : ℕ) → 1 ≤ count e E → f e % 2 ≡ 0)
+          clash : (f : ℕ → ℕ) × EvenOnCycles ends E T F path within leads f × ((e : ℕ) → 1 ≤ count e K → f e % 2 ≡ 0) × ¬
+              ((e : ℕ) → 1 ≤ count e E → f e % 2 ≡ 0)
               → ⊥
           clash (f, even, on_K, not_all) = not_all each
             where

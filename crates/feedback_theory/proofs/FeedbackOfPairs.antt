@@ -23,7 +23,12 @@ module _ (ends : ℕ → ℕ × ℕ) where
     pub at : (v : ℕ) → 1 ≤ count v X → (e : ℕ) × (1 ≤ count e (flat P)) × (((ends e).0 ≡ v) ⊎ ((ends e).1 ≡ v))
 
   pub common_ends : (P : List (ℕ × ℕ)) → AllHaveCommonEnd ends P → CommonEnds P
-  common_ends [] s = record { X = []; long = refl; covers = λ e i. absurd (omega (arith, i, count-flat_nil e)); at = λ v i. absurd (omega (arith, i, count-nil v)) }
+  common_ends [] s = record {
+    X = [];
+    long = refl;
+    covers = λ e i. absurd (omega (arith, i, count-flat_nil e));
+    at = λ v i. absurd (omega (arith, i, count-nil v));
+  }
   common_ends (p ∷ P) s = go (common_ends P s.1) (vertex s.0)
     where
       vertex : HaveCommonEnd ends p.0 p.1 → (v : ℕ) × (((ends p.0).0 ≡ v) ⊎ ((ends p.0).1 ≡ v)) × (((ends p.1).0 ≡ v) ⊎ ((ends p.1).1 ≡ v))
@@ -32,18 +37,31 @@ module _ (ends : ℕ → ℕ × ℕ) where
       vertex (inr (inl q)) = ((ends p.1).0, inr q, inl refl)
       vertex (inr (inr q)) = ((ends p.1).1, inr q, inr refl)
 
-      go : CommonEnds P → (v : ℕ) × (((ends p.0).0 ≡ v) ⊎ ((ends p.0).1 ≡ v)) × (((ends p.1).0 ≡ v) ⊎ ((ends p.1).1 ≡ v)) → CommonEnds (p ∷ P)
-      go r (v, h, k) = record { X = v ∷ r.X; long = (let l = r.long in omega arith); covers = λ e i. at e i (ℕ_discrete p.0 e) (ℕ_discrete p.1 e); at = λ u i. ends_at u i (ℕ_discrete v u) }
+      go : CommonEnds P → (v : ℕ) × (((ends p.0).0 ≡ v) ⊎ ((ends p.0).1 ≡ v)) × (((ends p.1).0 ≡ v) ⊎ ((ends p.1).1 ≡ v))
+          → CommonEnds (p ∷ P)
+      go r (v, h, k) = record {
+        X = v ∷ r.X;
+        long = (let l = r.long in omega arith);
+        covers = λ e i. at e i (ℕ_discrete p.0 e) (ℕ_discrete p.1 e);
+        at = λ u i. ends_at u i (ℕ_discrete v u);
+      }
         where
-          ends_at : (u : ℕ) → 1 ≤ count u (v ∷ r.X) → Dec (v ≡ u) → (e : ℕ) × (1 ≤ count e (flat (p ∷ P))) × (((ends e).0 ≡ u) ⊎ ((ends e).1 ≡ u))
-          ends_at u i (yes q) = (p.0, omega (arith, count-flat p.0 p P, count-one p.0), subst (λ t. ((ends p.0).0 ≡ t) ⊎ ((ends p.0).1 ≡ t)) q h)
-          ends_at u i (no n) = let k = r.at u (omega (arith, i, count-other u v r.X n)) in (k.0, omega (arith, k.1, count-flat k.0 p P), k.2)
+          ends_at : (u : ℕ) → 1 ≤ count u (v ∷ r.X) → Dec (v ≡ u)
+              → (e : ℕ) × (1 ≤ count e (flat (p ∷ P))) × (((ends e).0 ≡ u) ⊎ ((ends e).1 ≡ u))
+          ends_at u i (yes q) = (
+            p.0,
+            omega (arith, count-flat p.0 p P, count-one p.0),
+            subst (λ t. ((ends p.0).0 ≡ t) ⊎ ((ends p.0).1 ≡ t)) q h,
+          )
+          ends_at u i (no n) = let k = r.at u (omega (arith, i, count-other u v r.X n)) in
+              (k.0, omega (arith, k.1, count-flat k.0 p P), k.2)
 
           meets : (e : ℕ) → ((ends e).0 ≡ v) ⊎ ((ends e).1 ≡ v) → 1 ≤ count (ends e).0 (v ∷ r.X) + count (ends e).1 (v ∷ r.X)
           meets e (inl q) = omega (arith, subst (λ t. 1 ≤ count (ends e).0 (t ∷ r.X)) q (count-here (ends e).0 r.X))
           meets e (inr q) = omega (arith, subst (λ t. 1 ≤ count (ends e).1 (t ∷ r.X)) q (count-here (ends e).1 r.X))
 
-          at : (e : ℕ) → 1 ≤ count e (flat (p ∷ P)) → Dec (p.0 ≡ e) → Dec (p.1 ≡ e) → 1 ≤ count (ends e).0 (v ∷ r.X) + count (ends e).1 (v ∷ r.X)
+          at : (e : ℕ) → 1 ≤ count e (flat (p ∷ P)) → Dec (p.0 ≡ e) → Dec (p.1 ≡ e) → 1 ≤ count (ends e).0 (v ∷ r.X) + count (ends e).1
+              (v ∷ r.X)
           at e i (yes q) d = meets e (subst (λ t. ((ends t).0 ≡ v) ⊎ ((ends t).1 ≡ v)) q h)
           at e i (no n) (yes q) = meets e (subst (λ t. ((ends t).0 ≡ v) ⊎ ((ends t).1 ≡ v)) q k)
           at e i (no n) (no m) = omega (
@@ -66,7 +84,8 @@ module _ (ends : ℕ → ℕ × ℕ) where
   feedback_of_pairs V H graph g P = record {
     X = C.X ++ first_ends ends S.R;
     below = λ v i. below_at v (omega (arith, i, count-append v C.X (first_ends ends S.R))) (ℕ_discrete (count v C.X) 0);
-    feedback = forest_part ends S.T (outside ends H (C.X ++ first_ends ends S.R)) (λ c. omega (arith, parts c, graph.single c)) (outside_single ends H (C.X ++ first_ends ends S.R) graph.single) in_tree S.forest;
+    feedback = forest_part ends S.T (outside ends H (C.X ++ first_ends ends S.R)) (λ c. omega (arith, parts c, graph.single c))
+        (outside_single ends H (C.X ++ first_ends ends S.R) graph.single) in_tree S.forest;
     size = omega (
       arith,
       length-append C.X (first_ends ends S.R),
@@ -115,9 +134,11 @@ module _ (ends : ℕ → ℕ × ℕ) where
       split v = count-append v C.X (first_ends ends S.R)
 
       in_tree : (c : ℕ) → 1 ≤ count c (outside ends H (C.X ++ first_ends ends S.R)) → 1 ≤ count c S.T
-      in_tree c i = go (outside_from ends H (C.X ++ first_ends ends S.R) c i) (ℕ_discrete (count c (flat P.P)) 0) (ℕ_discrete (count c S.R) 0)
+      in_tree c i = go (outside_from ends H (C.X ++ first_ends ends S.R) c i) (ℕ_discrete (count c (flat P.P)) 0)
+          (ℕ_discrete (count c S.R) 0)
         where
-          go : (count (ends c).0 (C.X ++ first_ends ends S.R) + count (ends c).1 (C.X ++ first_ends ends S.R) ≡ 0) × (1 ≤ count c H) → Dec (count c (flat P.P) ≡ 0) → Dec (count c S.R ≡ 0)
+          go : (count (ends c).0 (C.X ++ first_ends ends S.R) + count (ends c).1 (C.X ++ first_ends ends S.R) ≡ 0) × (1 ≤ count c H)
+              → Dec (count c (flat P.P) ≡ 0) → Dec (count c S.R ≡ 0)
               → 1 ≤ count c S.T
           go (z, h) (yes p) (yes r) = omega (arith, parts c, h, p, r)
           go (z, h) (no p) d = absurd (omega (arith, C.covers c (omega (arith, p)), split (ends c).0, split (ends c).1, z))

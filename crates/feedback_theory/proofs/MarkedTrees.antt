@@ -14,7 +14,8 @@ use Rattle.feedback_theory.proofs.LeadingEdges.{leads_ends, leads_joined}
 use Rattle.feedback_theory.proofs.Marks.{AreMarks, LeadsOut, Mark, TwoInto, apart, first_out, firsts, mark_vertices, second_out, seconds, vertex_in}
 use Rattle.feedback_theory.proofs.Outside.{outside_from}
 
-module _ (ends : ℕ → ℕ × ℕ) (V : ℕ) (H : List ℕ) (graph : IsGraph ends V H) (C : IsConnected ends V H) (D : List Mark) (M : AreMarks ends H D) where
+module _ (ends : ℕ → ℕ × ℕ) (V : ℕ) (H : List ℕ) (graph : IsGraph ends V H) (C : IsConnected ends V H) (D : List Mark)
+    (M : AreMarks ends H D) where
   abbrev X : List ℕ
   X = mark_vertices D
 
@@ -93,7 +94,15 @@ module _ (ends : ℕ → ℕ × ℕ) (V : ℕ) (H : List ℕ) (graph : IsGraph e
     where
       go : Dec (count c used ≡ 0) → count c (rest ++ used) ≡ count c H
       go (yes z) = omega (arith, count-append c rest used, z, count-without_out c used H z)
-      go (no n) = omega (arith, count-append c rest used, count-without_in c used H n, count-used c, apart ends H graph.single D M c, used_in c (omega (arith, n)), graph.single c)
+      go (no n) = omega (
+        arith,
+        count-append c rest used,
+        count-without_in c used H n,
+        count-used c,
+        apart ends H graph.single D M c,
+        used_in c (omega (arith, n)),
+        graph.single c,
+      )
 
   ext : Extended ends A rest
   ext = extend_forest ends A A_forest rest
@@ -124,7 +133,8 @@ module _ (ends : ℕ → ℕ × ℕ) (V : ℕ) (H : List ℕ) (graph : IsGraph e
               let p_in : 1 ≤ count m.p (firsts D) = count_of_in m.p (firsts D) (In-map (λ (k : Mark). k.p) m D j) in
               let A_in : 1 ≤ count m.p tree = omega (arith, p_in, count-append m.p ext.T A, count-append m.p (firsts D) rest_out) in
               let xw : Joined ends tree m.x m.w = leads_joined ends tree m.p m.x m.w T.p_to (joined_edge ends m.p tree A_in) in
-              let wy : Joined ends tree m.w m.y = joined_more ends rest_out tree (λ d k. omega (arith, k, count-append d ext.T A, count-append d (firsts D) rest_out)) m.w m.y T.joined in
+              let wy : Joined ends tree m.w m.y = joined_more ends rest_out tree
+              (λ d k. omega (arith, k, count-append d ext.T A, count-append d (firsts D) rest_out)) m.w m.y T.joined in
               leads_ends ends tree c m.x m.y (subst (λ v. LeadsTo ends v m.x m.y) (sym e) T.q_to) (xw ∙ wy)
 
   tree_connected : IsConnected ends V tree

@@ -69,7 +69,8 @@ module _ (ends : ℕ → ℕ × ℕ) (H : List ℕ) (single : (e : ℕ) → coun
       T : TwoInto ends H X m
       T = t m (inl refl)
 
-      step : Dec (m.p ≡ c) → Dec (m.q ≡ c) → count c (m.p ∷ []) + count c (m.q ∷ []) ≤ count (ends c).0 (m.x ∷ []) + count (ends c).1 (m.x ∷ [])
+      step : Dec (m.p ≡ c) → Dec (m.q ≡ c) → count c (m.p ∷ []) + count c (m.q ∷ []) ≤ count (ends c).0 (m.x ∷ []) + count (ends c).1
+          (m.x ∷ [])
       step (yes p) (yes q) = absurd (T.ne (p ∙ sym q))
       step (yes p) (no n) = omega (
         arith,

@@ -21,8 +21,10 @@ module _ (ends : ℕ → ℕ × ℕ) (H : List ℕ) where
   pub outside_single : (X : List ℕ) → ((e : ℕ) → count e H ≤ 1) → (e : ℕ) → count e (outside ends H X) ≤ 1
   outside_single X single = keep_single (touch X) H single
 
-  pub outside_less : (X X' : List ℕ) → ((c : ℕ) → count c X' ≤ count c X) → (e : ℕ) → 1 ≤ count e (outside ends H X) → 1 ≤ count e (outside ends H X')
-  outside_less X X' h e i = let r = outside_from X e i in omega (arith, r.1, count-outside X' e (omega (arith, r.0, h (ends e).0, h (ends e).1)))
+  pub outside_less : (X X' : List ℕ) → ((c : ℕ) → count c X' ≤ count c X) → (e : ℕ) → 1 ≤ count e (outside ends H X)
+      → 1 ≤ count e (outside ends H X')
+  outside_less X X' h e i = let r = outside_from X e i in
+      omega (arith, r.1, count-outside X' e (omega (arith, r.0, h (ends e).0, h (ends e).1)))
 
   -- what is outside depends on the members alone
   pub outside_same : (X X' : List ℕ) → ((c : ℕ) → 1 ≤ count c X' → 1 ≤ count c X) → ((c : ℕ) → 1 ≤ count c X → 1 ≤ count c X') → (e : ℕ)

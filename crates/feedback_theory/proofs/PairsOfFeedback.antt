@@ -1,4 +1,5 @@
--- A feedback vertex set of a connected graph with at most three edges at each vertex gives pairs of edges without which the graph is connected.
+-- A feedback vertex set of a connected graph with at most three edges at each vertex gives pairs of edges without which the graph is
+-- connected.
 use Rattle.std.proofs.Common.{◌≡◌, ◌≢◌, ℕ, ◌+◌, ◌≤◌, inl, inr, ◌⊎◌, List, [], ◌∷◌, length, refl, ap, subst, arith}
 use Rattle.std.proofs.Math.Decide.{ℕ_discrete}
 use Rattle.vector_spaces.proofs.Members.{In, In-map, In_map-from}
@@ -87,7 +88,8 @@ module _ (ends : ℕ → ℕ × ℕ) (V : ℕ) (H : List ℕ) (graph : IsGraph e
       xs_from = λ v i. absurd (omega (arith, i, count-nil v));
       xs_one = λ v. omega (arith, count-nil v);
     }
-    build (r ∷ L) h d = go (build L (λ c i. h c (count-there c r L i)) (λ c. omega (arith, d c, count-append c (r ∷ []) L))) (third r (h r (count-here r L)))
+    build (r ∷ L) h d = go (build L (λ c i. h c (count-there c r L i)) (λ c. omega (arith, d c, count-append c (r ∷ []) L)))
+        (third r (h r (count-here r L)))
       where
         go : Built L → Third r → Built (r ∷ L)
         go B t = record {
@@ -96,7 +98,14 @@ module _ (ends : ℕ → ℕ × ℕ) (V : ℕ) (H : List ℕ) (graph : IsGraph e
           xs = t.m.x ∷ B.xs;
           share = (share_at ends t.m.q r t.m.x (has_end ends t.m.q t.m.x t.m.y T.q_to) t.end, B.share);
           long = (let k = B.long in omega arith);
-          flat_is = λ c. omega (arith, count-flat c (t.m.q, r) B.PP, B.flat_is c, count-append c (t.m.q ∷ []) B.qs, count-append c (r ∷ []) L);
+          flat_is = λ c. omega (
+            arith,
+            count-flat c (t.m.q, r) B.PP,
+            B.flat_is c,
+            count-append c (t.m.q ∷ []) B.qs,
+            count-append c
+                (r ∷ []) L,
+          );
           q_in = λ c i. member_one c t.m.q B.qs (λ v. 1 ≤ count v (seconds D)) i q_second (B.q_in c);
           q_bound = λ c. omega (
             arith,
@@ -106,8 +115,10 @@ module _ (ends : ℕ → ℕ × ℕ) (V : ℕ) (H : List ℕ) (graph : IsGraph e
             count-append (ends c).1 (t.m.x ∷ []) B.xs,
             step c (ℕ_discrete t.m.q c),
           );
-          xs_in = λ v i. member_one v t.m.x B.xs (λ u. 1 ≤ count u (mark_vertices D)) i (vertex_in ends H graph.single D M t.m t.m_in) (B.xs_in v);
-          xs_from = λ v i. member_one v t.m.x B.xs (λ v. (c : ℕ) × (1 ≤ count c (r ∷ L)) × HasEnd ends c v) i (r, count-here r L, t.end) (λ j. let k = B.xs_from v j in (k.0, count-there k.0 r L k.1, k.2));
+          xs_in = λ v i. member_one v t.m.x B.xs (λ u. 1 ≤ count u (mark_vertices D)) i (vertex_in ends H graph.single D M t.m t.m_in)
+              (B.xs_in v);
+          xs_from = λ v i. member_one v t.m.x B.xs (λ v. (c : ℕ) × (1 ≤ count c (r ∷ L)) × HasEnd ends c v) i (r, count-here r L, t.end)
+              (λ j. let k = B.xs_from v j in (k.0, count-there k.0 r L k.1, k.2));
           xs_one = λ v. once_at v (ℕ_discrete t.m.x v);
         }
           where
@@ -136,13 +147,21 @@ module _ (ends : ℕ → ℕ × ℕ) (V : ℕ) (H : List ℕ) (graph : IsGraph e
                 let u = in_rest r (h r (count-here r L)) in
                 let u' = in_rest r' (h r' (count-there r' r L i)) in
                 let e : r' ≡ r =
-                three t.m.x t.m.p t.m.q r r' T.p_in T.q_in u.0 u'.0 (has_end ends t.m.p t.m.x t.m.w T.p_to) (has_end ends t.m.q t.m.x t.m.y T.q_to) t.end k T.ne
-                (λ s. omega (arith, p_first, u.1, ap (λ v. count v (firsts D)) s)) (λ s. omega (arith, q_second, u.2, ap (λ v. count v (seconds D)) s))
-                (λ s. omega (arith, p_first, u'.1, ap (λ v. count v (firsts D)) s)) (λ s. omega (arith, q_second, u'.2, ap (λ v. count v (seconds D)) s)) in
+                three t.m.x t.m.p t.m.q r r' T.p_in T.q_in u.0 u'.0 (has_end ends t.m.p t.m.x t.m.w T.p_to)
+                (has_end ends t.m.q t.m.x t.m.y T.q_to) t.end k T.ne
+                (λ s. omega (arith, p_first, u.1, ap (λ v. count v (firsts D)) s))
+                (λ s. omega (arith, q_second, u.2, ap (λ v. count v (seconds D)) s))
+                (λ s. omega (arith, p_first, u'.1, ap (λ v. count v (firsts D)) s))
+                (λ s. omega (arith, q_second, u'.2, ap (λ v. count v (seconds D)) s)) in
                 omega (arith, d r, count-head r L, i, ap (λ v. count v L) e))
 
             once_at : (v : ℕ) → Dec (t.m.x ≡ v) → count v (t.m.x ∷ B.xs) ≤ 1
-            once_at v (yes e) = omega (arith, ap (λ u. count u (t.m.x ∷ B.xs)) e, count-head t.m.x B.xs, fresh (ℕ_discrete (count t.m.x B.xs) 0))
+            once_at v (yes e) = omega (
+              arith,
+              ap (λ u. count u (t.m.x ∷ B.xs)) e,
+              count-head t.m.x B.xs,
+              fresh (ℕ_discrete (count t.m.x B.xs) 0),
+            )
             once_at v (no n) = omega (arith, count-other v t.m.x B.xs n, B.xs_one v)
 
     -- the pairs, and the edges that are none of theirs
@@ -218,5 +237,6 @@ module _ (ends : ℕ → ℕ × ℕ) (V : ℕ) (H : List ℕ) (graph : IsGraph e
       → (g : ℕ) × XuongPairs ends V H g × (length H + one_component V ≤ g + length X + V)
   pairs_of_feedback X d F = go (reduce ends H graph.single no_loop X d F)
     where
-      go : Reduced ends H graph.single no_loop (length X) → (g : ℕ) × XuongPairs ends V H g × (length H + one_component V ≤ g + length X + V)
+      go : Reduced ends H graph.single no_loop (length X)
+          → (g : ℕ) × XuongPairs ends V H g × (length H + one_component V ≤ g + length X + V)
       go r = let k = pairs_of_marks r.D r.marks in (k.0, k.1, omega (arith, k.2, r.long))

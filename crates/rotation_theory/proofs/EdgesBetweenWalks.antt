@@ -24,7 +24,8 @@ pub turn_end : (d : ℕ) (w : List ℕ) → 1 ≤ count d w → (s : List ℕ) �
 turn_end d w h = let s = split_at d w h in (
   s.v ++ s.u,
   λ X. subst (λ t. SameCycles (t ∷ X) (((s.v ++ s.u) ++ d ∷ []) ∷ X)) (append_assoc s.u (d ∷ []) s.v ∙ sym s.is)
-      (subst (λ t. SameCycles (((s.u ++ d ∷ []) ++ s.v) ∷ X) (t ∷ X)) (sym (append_assoc s.v s.u (d ∷ []))) (same_turn (s.u ++ d ∷ []) s.v X)),
+      (subst (λ t. SameCycles (((s.u ++ d ∷ []) ++ s.v) ∷ X) (t ∷ X)) (sym (append_assoc s.v s.u (d ∷ [])))
+      (same_turn (s.u ++ d ∷ []) s.v X)),
 )
 
 -- L1 is L with x directly after p
@@ -40,20 +41,39 @@ pub record DartPutAfter (ends : ℕ → ℕ × ℕ) (x p : ℕ) (L L1 : List (Li
   pub how : (l1 ≡ u ++ p ∷ x ∷ v) ⊎ (l1 ≡ x ∷ v ++ (u ++ p ∷ []))
 
 pub put_of : (ends : ℕ → ℕ × ℕ) (x p : ℕ) (L L1 : List (List ℕ)) → DartPutAfter ends x p L L1 → DartPut ends x L L1
-put_of ends x p L L1 P = record { U = P.U; l = P.u ++ p ∷ P.v; l1 = P.l1; Y = P.Y; was = P.was; is = P.is; at = P.at; how = inr (P.u, p, P.v, refl, P.how) }
+put_of ends x p L L1 P = record {
+  U = P.U;
+  l = P.u ++ p ∷ P.v;
+  l1 = P.l1;
+  Y = P.Y;
+  was = P.was;
+  is = P.is;
+  at = P.at;
+  how = inr (P.u, p, P.v, refl, P.how);
+}
 
 pub after_of : (ends : ℕ → ℕ × ℕ) (c : ℕ → ℕ) (x p : ℕ) (L L1 : List (List ℕ)) → DartPutAfter ends x p L L1 → (s' : List ℕ)
     → CornerAfter c x L L1 (s' ++ c p ∷ [])
 after_of ends c x p L L1 P s' =
-    subst (λ t. CornerAfter c x t L1 (s' ++ c p ∷ [])) (sym P.was) (subst (λ t. CornerAfter c x (P.U ++ (P.u ++ p ∷ P.v) ∷ P.Y) t (s' ++ c p ∷ [])) (sym P.is) (corner_after c x p P.U P.u P.v P.l1 P.Y s' P.how))
+    subst (λ t. CornerAfter c x t L1 (s' ++ c p ∷ [])) (sym P.was)
+    (subst (λ t. CornerAfter c x (P.U ++ (P.u ++ p ∷ P.v) ∷ P.Y) t (s' ++ c p ∷ [])) (sym P.is)
+    (corner_after c x p P.U P.u P.v P.l1 P.Y s' P.how))
 
 pub put_in : (ends : ℕ → ℕ × ℕ) (x p : ℕ) (L L1 : List (List ℕ)) → DartPutAfter ends x p L L1 → 1 ≤ count_all p L
 put_in ends x p L L1 P =
     let l : SameCycles (P.U ++ (P.u ++ p ∷ P.v) ∷ P.Y) ((P.u ++ p ∷ P.v) ∷ P.U ++ P.Y) = same_front P.U (P.u ++ p ∷ P.v) P.Y in
-    omega (arith, ap (count_all p) P.was, l.darts p, count_all-cons p (P.u ++ p ∷ P.v) (P.U ++ P.Y), count-append p P.u (p ∷ P.v), count-head p P.v)
+    omega (
+      arith,
+      ap (count_all p) P.was,
+      l.darts p,
+      count_all-cons p (P.u ++ p ∷ P.v) (P.U ++ P.Y),
+      count-append p P.u (p ∷ P.v),
+      count-head p P.v,
+    )
 
 module _ (ends : ℕ → ℕ × ℕ) (V : ℕ) where
-  module _ (H : List ℕ) (e : ℕ) (free : count e H ≡ 0) (below : AreBelow V (ends e)) (L L1 L2 : List (List ℕ)) (R : IsRotation ends V H L) where
+  module _ (H : List ℕ) (e : ℕ) (free : count e H ≡ 0) (below : AreBelow V (ends e)) (L L1 L2 : List (List ℕ))
+      (R : IsRotation ends V H L) where
     abbrev pub x : ℕ
     x = dart e
 
@@ -67,14 +87,16 @@ module _ (ends : ℕ → ℕ × ℕ) (V : ℕ) where
     no_y = R.held y ∙ ap (λ t. count t H) (edge_rev x ∙ edge_dart e) ∙ free
 
     -- between two walks
-    pub insert_between : (p q : ℕ) (P : DartPutAfter ends x p L L1) (Q : DartPutAfter ends y q L1 L2) → q ≢ x → (w1 w2 : List ℕ) (S : List (List ℕ))
+    pub insert_between : (p q : ℕ) (P : DartPutAfter ends x p L L1) (Q : DartPutAfter ends y q L1 L2) → q ≢ x
+        → (w1 w2 : List ℕ) (S : List (List ℕ))
         → FaceWalks rev L (w1 ∷ w2 ∷ S) → 1 ≤ count (rev p) w1 → 1 ≤ count (rev q) w2
         → (w : List ℕ) × FaceWalks rev L2 (w ∷ S)
     insert_between p q P Q n w1 w2 S k i j =
         let (s1, l1) = turn_end (rev p) w1 i in
         let (s2, l2) = turn_end (rev q) w2 j in
         let k1 : FaceWalks rev L ((s1 ++ rev p ∷ []) ∷ w2 ∷ S) = walks_same rev L L _ _ (same_refl L) (l1 (w2 ∷ S)) k in
-        let k2 : FaceWalks rev L ((s1 ++ rev p ∷ []) ∷ (s2 ++ rev q ∷ []) ∷ S) = walks_same rev L L _ _ (same_refl L) (same_under (s1 ++ rev p ∷ []) (w2 ∷ S) ((s2 ++ rev q ∷ []) ∷ S) (l2 S)) k1 in (
+        let k2 : FaceWalks rev L ((s1 ++ rev p ∷ []) ∷ (s2 ++ rev q ∷ []) ∷ S) = walks_same rev L L _ _ (same_refl L)
+        (same_under (s1 ++ rev p ∷ []) (w2 ∷ S) ((s2 ++ rev q ∷ []) ∷ S) (l2 S)) k1 in (
           x ∷ (s2 ++ rev q ∷ []) ++ y ∷ (s1 ++ rev p ∷ []),
           insert_merging rev (cut x) x y E L L1 L2 no_x no_y D1 D2 (s2 ++ rev q ∷ []) (s1 ++ rev p ∷ []) S
               (inl (subst (λ t. CornerAfter (cut x) x L L1 (s1 ++ t ∷ [])) cp (after_of ends (cut x) x p L L1 P s1)))
@@ -106,10 +128,12 @@ module _ (ends : ℕ → ℕ × ℕ) (V : ℕ) where
         q_in = omega (arith, put_in ends y q L1 L2 Q, taken_count x L1 L t1 q, count-other q x [] (λ z. n (sym z)), count-nil q)
 
         cp : cut x p ≡ rev p
-        cp = E.others p (λ z. absurd (omega (arith, p_in, ap (λ t. count_all t L) z, no_x))) (λ z. absurd (omega (arith, p_in, ap (λ t. count_all t L) z, no_y)))
+        cp = E.others p (λ z. absurd (omega (arith, p_in, ap (λ t. count_all t L) z, no_x)))
+            (λ z. absurd (omega (arith, p_in, ap (λ t. count_all t L) z, no_y)))
 
         cq : cut x q ≡ rev q
-        cq = E.others q (λ z. absurd (omega (arith, q_in, ap (λ t. count_all t L) z, no_x))) (λ z. absurd (omega (arith, q_in, ap (λ t. count_all t L) z, no_y)))
+        cq = E.others q (λ z. absurd (omega (arith, q_in, ap (λ t. count_all t L) z, no_x)))
+            (λ z. absurd (omega (arith, q_in, ap (λ t. count_all t L) z, no_y)))
 
     -- one face becomes two, one with each dart
     pub insert_first : (P : DartPut ends x L L1) (Q : DartPut ends y L1 L2) → (w : List ℕ) → FaceWalks rev L (w ∷ [])
@@ -131,9 +155,18 @@ module _ (ends : ℕ → ℕ × ℕ) (V : ℕ) where
         go : ((length lifted.W ≡ length (w ∷ []) + 1) × OnOneWalk (cut y) y x L2) ⊎ (length lifted.W + 1 ≡ length (w ∷ []))
             → (A : List ℕ) × (B : List ℕ) × FaceWalks rev L2 ((y ∷ A) ∷ (x ∷ B) ∷ [])
         go (inl (h, o)) =
-            let s : FaceWalks rev L2 ((y ∷ o.T) ∷ (x ∷ o.Q) ∷ o.S) = swap_split y x E.ne (cut y) rev (E.r_e ∙ sym E.c_f) (E.r_f ∙ sym E.c_e) (λ c m n. sym (E.others c m n)) L2 o.Q o.T o.S D2 o.walks in
+            let s : FaceWalks rev L2 ((y ∷ o.T) ∷ (x ∷ o.Q) ∷ o.S) = swap_split y x E.ne (cut y) rev (E.r_e ∙ sym E.c_f)
+            (E.r_f ∙ sym E.c_e) (λ c m n. sym (E.others c m n)) L2 o.Q o.T o.S D2 o.walks in
             let u : length lifted.W ≡ length ((y ∷ o.T) ∷ (x ∷ o.Q) ∷ o.S) = walks_unique rev L2 lifted.W _ D2 lifted.walks s in
-            let z : length o.S ≡ 0 = omega (arith, u, h, length-cons w [], length-nil (List ℕ), length-cons (y ∷ o.T) ((x ∷ o.Q) ∷ o.S), length-cons (x ∷ o.Q) o.S) in
+            let z : length o.S ≡ 0 = omega (
+              arith,
+              u,
+              h,
+              length-cons w [],
+              length-nil (List ℕ),
+              length-cons (y ∷ o.T) ((x ∷ o.Q) ∷ o.S),
+              length-cons (x ∷ o.Q) o.S,
+            ) in
             (o.T, o.Q, subst (λ t. FaceWalks rev L2 ((y ∷ o.T) ∷ (x ∷ o.Q) ∷ t)) (nil_of o.S z) s)
           where
             nil_of : (S : List (List ℕ)) → length S ≡ 0 → S ≡ []

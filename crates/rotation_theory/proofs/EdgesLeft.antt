@@ -17,7 +17,8 @@ module _ (ends : ℕ → ℕ × ℕ) (V : ℕ) where
   Rot = IsRotation ends V
 
   -- an arc of the walks leads on where its first dart arrives
-  pub leads_on : (H : List ℕ) (L W : List (List ℕ)) → Rot H L → FaceWalks rev L W → (p q : ℕ) → 1 ≤ arcs p q W → tail ends (rev p) ≡ tail ends q
+  pub leads_on : (H : List ℕ) (L W : List (List ℕ)) → Rot H L → FaceWalks rev L W → (p q : ℕ) → 1 ≤ arcs p q W
+      → tail ends (rev p) ≡ tail ends q
   leads_on H L W R k p q i = arcs_placed ends 0 (rev p) q L R.placed (omega (arith, i, k.next p q))
 
   -- a dart of the walks that is none of d's edge has its edge in what is left
@@ -35,7 +36,8 @@ module _ (ends : ℕ → ℕ × ℕ) (V : ℕ) where
   )
 
   -- where the ends of an edge are joined without it, nothing changes
-  pub same_joined : (H H1 : List ℕ) (e : ℕ) → ((c : ℕ) → count c H ≡ count c (e ∷ []) + count c H1) → Joined ends H1 (ends e).0 (ends e).1 → (u v : ℕ) → Joined ends H u v
+  pub same_joined : (H H1 : List ℕ) (e : ℕ) → ((c : ℕ) → count c H ≡ count c (e ∷ []) + count c H1)
+      → Joined ends H1 (ends e).0 (ends e).1 → (u v : ℕ) → Joined ends H u v
       → Joined ends H1 u v
   same_joined H H1 e h j = joined_from ends H H1 each
     where
@@ -46,11 +48,13 @@ module _ (ends : ℕ → ℕ × ℕ) (V : ℕ) where
           go (yes q) = subst (λ t. Joined ends H1 (ends t).0 (ends t).1) q j
           go (no n) = joined_edge ends c H1 (omega (arith, i, h c, count-other c e [] n, count-nil c))
 
-  pub less_joined : (H H1 : List ℕ) (e : ℕ) → ((c : ℕ) → count c H ≡ count c (e ∷ []) + count c H1) → (u v : ℕ) → Joined ends H1 u v → Joined ends H u v
+  pub less_joined : (H H1 : List ℕ) (e : ℕ) → ((c : ℕ) → count c H ≡ count c (e ∷ []) + count c H1) → (u v : ℕ) → Joined ends H1 u v
+      → Joined ends H u v
   less_joined H H1 e h = joined_more ends H1 H (λ c i. omega (arith, i, h c))
 
   -- the edge e put back to what is kept
-  pub back_joined : (H H1 K : List ℕ) (e : ℕ) → ((c : ℕ) → count c H ≡ count c (e ∷ []) + count c H1) → ((u v : ℕ) → Joined ends H1 u v → Joined ends K u v) → (u v : ℕ)
+  pub back_joined : (H H1 K : List ℕ) (e : ℕ) → ((c : ℕ) → count c H ≡ count c (e ∷ []) + count c H1)
+      → ((u v : ℕ) → Joined ends H1 u v → Joined ends K u v) → (u v : ℕ)
       → Joined ends H u v → Joined ends (e ∷ K) u v
   back_joined H H1 K e h j = joined_from ends H (e ∷ K) each
     where

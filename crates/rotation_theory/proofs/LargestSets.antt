@@ -8,7 +8,8 @@ use Rattle.cographic_theory.proofs.PairLines.{IsLargestSet, largest_of_most, mos
 use Rattle.rotation_theory.specs.MaximumGenus.{IsMaximumGenus}
 use Rattle.rotation_theory.proofs.MaximumGenus.{maximum_of_most, most_of_maximum}
 
-module _ (ends : ℕ → ℕ × ℕ) (n : ℕ) (E : List ℕ) (graph : IsGraph ends n E) (pair : ℕ → ℕ × ℕ) (m : ℕ) (Q : ListsPairs ends E pair m) (T : List ℕ) {K V : Type 0}
+module _ (ends : ℕ → ℕ × ℕ) (n : ℕ) (E : List ℕ) (graph : IsGraph ends n E) (pair : ℕ → ℕ × ℕ) (m : ℕ) (Q : ListsPairs ends E pair m)
+    (T : List ℕ) {K V : Type 0}
     (f : Field K) (s : Space f V) (row : ℕ → V) (G : IsCographic ends E T f s row) (C : IsConnected ends n E) where
   abbrev IsLargest : List ℕ → Type 0
   IsLargest = IsLargestSet ends n E graph pair m Q T f s row G C
