@@ -27,7 +27,8 @@ pub record IsSwap (M : List ℕ) (m e : ℕ) (N : List ℕ) : Type 0 where
   pub same_length : length N ≡ length M
 
 -- where M is split at m
-pub swap_into : (P : List ℕ) (m : ℕ) (Q : List ℕ) (e : ℕ) (N : List ℕ) → IsDistinct (P ++ m ∷ Q) → IsSwap (P ++ m ∷ Q) m e N → (l : ℕ) → In l (e ∷ P ++ Q) → In l N
+pub swap_into : (P : List ℕ) (m : ℕ) (Q : List ℕ) (e : ℕ) (N : List ℕ) → IsDistinct (P ++ m ∷ Q) → IsSwap (P ++ m ∷ Q) m e N → (l : ℕ) →
+    In l (e ∷ P ++ Q) → In l N
 swap_into P m Q e N d w l (inl q) = subst (λ t. In t N) (sym q) w.new
 swap_into P m Q e N d w l (inr i) = w.kept l (middle_in P m Q l (inr i)) (λ q. distinct_middle P m Q d (subst (λ t. In t (P ++ Q)) q i))
 
@@ -37,7 +38,13 @@ swap_in_front P m Q e d = record {
   gone = middle_in P m Q m (inl refl);
   new = inl refl;
   kept = λ l i n. inr (in_others P m Q l i n);
-  only = λ l i n. elim i [ inl q ↦ absurd (n q) | inr j ↦ (middle_in P m Q l (inr j), λ q. distinct_middle P m Q d (subst (λ t. In t (P ++ Q)) q j)) ];
+  only = λ l i n. elim i [
+    | inl q ↦ absurd (n q)
+    | inr j ↦ (
+      middle_in P m Q l (inr j),
+      λ q. distinct_middle P m Q d (subst (λ t. In t (P ++ Q)) q j),
+    )
+  ];
   same_length = sym (length-middle P m Q);
 }
 
@@ -52,49 +59,77 @@ swapped_from M m h M' w l i = elim (ℕ_discrete l h) [ yes e ↦ inl e | no n �
 
 module _ {K V : Type 0} {f : Field K} (s : Space f V) (line : ℕ → V × V) where
   -- N has the lines of M but m, and e; what M and e's outer miss together, N misses
-  pub exchange_keeps_missing : (P : List ℕ) (m : ℕ) (Q N : List ℕ) (e : ℕ) (tip outer : V) (c : List (K × K)) (p : K × K) (d : List (K × K)) (X : List V) →
+  pub exchange_keeps_missing : (P : List ℕ) (m : ℕ) (Q N : List ℕ) (e : ℕ) (tip outer : V) (c : List (K × K)) (p : K × K) (d : List (K × K))
+      (X : List V) →
       Exposed s line (P ++ m ∷ Q) e tip outer (c ++ p ∷ d) → length c ≡ length P → NonZero f p → Misses s line (P ++ m ∷ Q) (outer ∷ X) →
       ((l : ℕ) → In l (e ∷ P ++ Q) → In l N) → length N ≤ length (P ++ m ∷ Q) → Misses s line N X
   exchange_keeps_missing P m Q N e tip outer c p d X x lc n i h k =
       let r = pivot_line s line P m Q c p d tip lc x.combines n in
       let y : V = r.0 in
-      let a : Within s (vectors line (P ++ m ∷ Q)) (y ∷ tip ∷ outer ∷ vectors line (P ++ Q) ++ X) = within_trans s (vectors line (P ++ m ∷ Q)) (y ∷ tip ∷ vectors line (P ++ Q)) (y ∷ tip ∷ outer ∷ vectors line (P ++ Q) ++ X) r.1 (search placing depth 12) in
-      let j : IsIndependent s (y ∷ tip ∷ outer ∷ vectors line (P ++ Q) ++ X) = same_length_independent s (vectors line (P ++ m ∷ Q) ++ outer ∷ X) (y ∷ tip ∷ outer ∷ vectors line (P ++ Q) ++ X) i (within_append s (vectors line (P ++ m ∷ Q)) (outer ∷ X) (y ∷ tip ∷ outer ∷ vectors line (P ++ Q) ++ X) a (search placing))
-      (let e1 = length-missing line (P ++ m ∷ Q) (outer ∷ X) in let e2 = length-missing line (P ++ Q) X in let e3 = length-middle P m Q in omega arith) in
-      let j' : IsIndependent s (tip ∷ outer ∷ vectors line (P ++ Q) ++ X) = independent_right s (y ∷ []) (tip ∷ outer ∷ vectors line (P ++ Q) ++ X) j in
-      let b : Within s (tip ∷ outer ∷ []) (vectors line N ++ X) = within_left s (tip ∷ outer ∷ []) (vectors line N) X (within_trans s (tip ∷ outer ∷ []) (vectors line (e ∷ [])) (vectors line N) x.tip_outer_in (within_line s line e N (h e (inl refl)))) in
-      let g : Within s (vectors line (P ++ Q) ++ X) (vectors line N ++ X) = within_append s (vectors line (P ++ Q)) X (vectors line N ++ X) (within_left s (vectors line (P ++ Q)) (vectors line N) X (within_lines s line (P ++ Q) N (λ l q. h l (inr q)))) (search placing) in
-      same_length_independent s (tip ∷ outer ∷ vectors line (P ++ Q) ++ X) (vectors line N ++ X) j' (within_append s (tip ∷ outer ∷ []) (vectors line (P ++ Q) ++ X) (vectors line N ++ X) b g)
+      let a : Within s (vectors line (P ++ m ∷ Q)) (y ∷ tip ∷ outer ∷ vectors line (P ++ Q) ++ X) =
+      within_trans s (vectors line (P ++ m ∷ Q)) (y ∷ tip ∷ vectors line (P ++ Q)) (y ∷ tip ∷ outer ∷ vectors line (P ++ Q) ++ X) r.1
+      (search placing depth 12) in
+      let j : IsIndependent s (y ∷ tip ∷ outer ∷ vectors line (P ++ Q) ++ X) =
+      same_length_independent s (vectors line (P ++ m ∷ Q) ++ outer ∷ X) (y ∷ tip ∷ outer ∷ vectors line (P ++ Q) ++ X) i
+      (within_append s (vectors line (P ++ m ∷ Q)) (outer ∷ X) (y ∷ tip ∷ outer ∷ vectors line (P ++ Q) ++ X) a (search placing))
+      (let e1 = length-missing line (P ++ m ∷ Q) (outer ∷ X) in let e2 = length-missing line (P ++ Q) X in let e3 = length-middle P m Q in
+      omega arith) in
+      let j' : IsIndependent s (tip ∷ outer ∷ vectors line (P ++ Q) ++ X) =
+      independent_right s (y ∷ []) (tip ∷ outer ∷ vectors line (P ++ Q) ++ X) j in
+      let b : Within s (tip ∷ outer ∷ []) (vectors line N ++ X) = within_left s (tip ∷ outer ∷ []) (vectors line N) X
+      (within_trans s (tip ∷ outer ∷ []) (vectors line (e ∷ [])) (vectors line N) x.tip_outer_in
+      (within_line s line e N (h e (inl refl)))) in
+      let g : Within s (vectors line (P ++ Q) ++ X) (vectors line N ++ X) = within_append s (vectors line (P ++ Q)) X (vectors line N ++ X)
+      (within_left s (vectors line (P ++ Q)) (vectors line N) X (within_lines s line (P ++ Q) N (λ l q. h l (inr q))))
+      (search placing) in
+      same_length_independent s (tip ∷ outer ∷ vectors line (P ++ Q) ++ X) (vectors line N ++ X) j'
+      (within_append s (tip ∷ outer ∷ []) (vectors line (P ++ Q) ++ X) (vectors line N ++ X) b g)
       (let e1 = length-missing line N X in let e2 = length-missing line (P ++ Q) X in let e3 = length-middle P m Q in omega arith)
 
   -- the same for a line of the support
-  pub exchange_at : (M N : List ℕ) (m e : ℕ) (tip outer : V) (cs : List (K × K)) (X : List V) → Exposed s line M e tip outer cs → InSupport f m cs M → Misses s line M (outer ∷ X) → IsSwap M m e N → Misses s line N X
+  pub exchange_at : (M N : List ℕ) (m e : ℕ) (tip outer : V) (cs : List (K × K)) (X : List V) → Exposed s line M e tip outer cs →
+      InSupport f m cs M → Misses s line M (outer ∷ X) → IsSwap M m e N → Misses s line N X
   exchange_at M N m e tip outer cs X x (p, a, n) i w =
       let r = at_split m p M cs a in
-      go r.0 r.1 r.2 r.3 (subst (λ c. Exposed s line (r.0 ++ m ∷ r.1) e tip outer c) r.5 (subst (λ t. Exposed s line t e tip outer cs) r.4 x)) r.6 (subst (λ t. Misses s line t (outer ∷ X)) r.4 i) (subst (λ t. IsSwap t m e N) r.4 w)
+      go r.0 r.1 r.2 r.3 (subst (λ c. Exposed s line (r.0 ++ m ∷ r.1) e tip outer c) r.5
+      (subst (λ t. Exposed s line t e tip outer cs) r.4 x)) r.6 (subst (λ t. Misses s line t (outer ∷ X)) r.4 i)
+      (subst (λ t. IsSwap t m e N) r.4 w)
     where
-      go : (P Q : List ℕ) (c d : List (K × K)) → Exposed s line (P ++ m ∷ Q) e tip outer (c ++ p ∷ d) → length c ≡ length P → Misses s line (P ++ m ∷ Q) (outer ∷ X) → IsSwap (P ++ m ∷ Q) m e N → Misses s line N X
-      go P Q c d x lc i w = exchange_keeps_missing P m Q N e tip outer c p d X x lc n i (swap_into P m Q e N (independent_distinct s line (P ++ m ∷ Q) (independent_left s (vectors line (P ++ m ∷ Q)) (outer ∷ X) i)) w) (let k = w.same_length in omega arith)
+      go : (P Q : List ℕ) (c d : List (K × K)) → Exposed s line (P ++ m ∷ Q) e tip outer (c ++ p ∷ d) → length c ≡ length P →
+          Misses s line (P ++ m ∷ Q) (outer ∷ X) → IsSwap (P ++ m ∷ Q) m e N → Misses s line N X
+      go P Q c d x lc i w = exchange_keeps_missing P m Q N e tip outer c p d X x lc n i
+          (swap_into P m Q e N (independent_distinct s line (P ++ m ∷ Q) (independent_left s (vectors line (P ++ m ∷ Q)) (outer ∷ X) i)) w)
+          (let k = w.same_length in omega arith)
 
   -- so N is independent
-  pub exchange_independent : (M N : List ℕ) (m e : ℕ) (tip outer : V) (cs : List (K × K)) → Exposed s line M e tip outer cs → InSupport f m cs M → IsSwap M m e N → IsIndependent s (vectors line N)
-  exchange_independent M N m e tip outer cs x i w = subst (λ t. IsIndependent s t) (append-nil (vectors line N)) (exchange_at M N m e tip outer cs [] x i x.apart w)
+  pub exchange_independent : (M N : List ℕ) (m e : ℕ) (tip outer : V) (cs : List (K × K)) → Exposed s line M e tip outer cs →
+      InSupport f m cs M → IsSwap M m e N → IsIndependent s (vectors line N)
+  exchange_independent M N m e tip outer cs x i w = subst (λ t. IsIndependent s t) (append-nil (vectors line N))
+      (exchange_at M N m e tip outer cs [] x i x.apart w)
 
   -- where M and X together do not span e, they miss its outer
-  pub outer_outside_keep : (M : List ℕ) (e : ℕ) (tip outer : V) (cs : List (K × K)) (X : List V) → Exposed s line M e tip outer cs → Misses s line M X → ¬ (Within s (vectors line (e ∷ [])) (vectors line M ++ X)) → Misses s line M (outer ∷ X)
+  pub outer_outside_keep : (M : List ℕ) (e : ℕ) (tip outer : V) (cs : List (K × K)) (X : List V) → Exposed s line M e tip outer cs →
+      Misses s line M X → ¬ (Within s (vectors line (e ∷ [])) (vectors line M ++ X)) → Misses s line M (outer ∷ X)
   outer_outside_keep M e tip outer cs X x i n = go (span_decidable s (vectors line M ++ X) outer i)
     where
       go : InSpan s (vectors line M ++ X) outer ⊎ IsIndependent s ((vectors line M ++ X) ++ outer ∷ []) → Misses s line M (outer ∷ X)
-      go (inl c) = absurd (n (within_trans s (vectors line (e ∷ [])) (vectors line M ++ outer ∷ []) (vectors line M ++ X) (exposed_within s line M e tip outer cs x) (search (c, placing))))
-      go (inr j) = same_length_independent s ((vectors line M ++ X) ++ outer ∷ []) (vectors line M ++ outer ∷ X) j (search placing) (omega (arith, length-append {A = V}))
+      go (inl c) = absurd (n (within_trans s (vectors line (e ∷ [])) (vectors line M ++ outer ∷ []) (vectors line M ++ X)
+          (exposed_within s line M e tip outer cs x) (search (c, placing))))
+      go (inr j) = same_length_independent s ((vectors line M ++ X) ++ outer ∷ []) (vectors line M ++ outer ∷ X) j (search placing)
+          (omega (arith, length-append {A = V}))
 
   -- a line is free exactly where M with it is independent, in any order
-  pub add_line : (M N : List ℕ) (e : ℕ) → IsFree s line M e → ((l : ℕ) → In l (e ∷ M) → In l N) → length N ≤ suc (length M) → IsIndependent s (vectors line N)
+  pub add_line : (M N : List ℕ) (e : ℕ) → IsFree s line M e → ((l : ℕ) → In l (e ∷ M) → In l N) → length N ≤ suc (length M) →
+      IsIndependent s (vectors line N)
   add_line M N e i h k = same_length_independent s (vectors line M ++ vectors line (e ∷ [])) (vectors line N) i
-      (within_append s (vectors line M) (vectors line (e ∷ [])) (vectors line N) (within_lines s line M N (λ l q. h l (inr q))) (within_line s line e N (h e (inl refl))))
+      (within_append s (vectors line M) (vectors line (e ∷ [])) (vectors line N) (within_lines s line M N (λ l q. h l (inr q)))
+      (within_line s line e N (h e (inl refl))))
       (let e1 = length-vectors line N in let e2 = length-missing line M (vectors line (e ∷ [])) in omega arith)
 
-  pub line_added : (M N : List ℕ) (e : ℕ) → IsIndependent s (vectors line N) → ((l : ℕ) → In l N → In l (e ∷ M)) → suc (length M) ≤ length N → IsFree s line M e
+  pub line_added : (M N : List ℕ) (e : ℕ) → IsIndependent s (vectors line N) → ((l : ℕ) → In l N → In l (e ∷ M)) →
+      suc (length M) ≤ length N → IsFree s line M e
   line_added M N e i h k = same_length_independent s (vectors line N) (vectors line M ++ vectors line (e ∷ [])) i
-      (within_trans s (vectors line N) (vectors line (e ∷ M)) (vectors line M ++ vectors line (e ∷ [])) (within_lines s line N (e ∷ M) h) (within_append s (vectors line (e ∷ [])) (vectors line M) (vectors line M ++ vectors line (e ∷ [])) (search placing) (search placing)))
+      (within_trans s (vectors line N) (vectors line (e ∷ M)) (vectors line M ++ vectors line (e ∷ [])) (within_lines s line N (e ∷ M) h)
+      (within_append s (vectors line (e ∷ [])) (vectors line M) (vectors line M ++ vectors line (e ∷ [])) (search placing)
+      (search placing)))
       (let e1 = length-vectors line N in let e2 = length-missing line M (vectors line (e ∷ [])) in omega arith)

@@ -128,8 +128,9 @@ module _ {K V : Type 0} {f : Field K} (s : Space f V) (line : ℕ → V × V) (M
   same_support m i = let r = tip_coordinates in subst (λ ds. InSupport f m ds M) (sym r.2) (support_scaled f r.0 m cs M r.1 i)
 
 -- the outers of two exposed lines are independent over M for any choice, or for none
-module _ {K V : Type 0} {f : Field K} (s : Space f V) (line : ℕ → V × V) (M : List ℕ) (e : ℕ) (tip outer : V) (cs : List (K × K)) (x : Exposed s line M e tip outer cs) (tip' outer' : V) (cs' : List (K × K)) (y : Exposed s line M e tip' outer' cs')
-    (h : ℕ) (u w : V) (ds : List (K × K)) (z : Exposed s line M h u w ds) (u' w' : V) (ds' : List (K × K)) (t : Exposed s line M h u' w' ds') where
+module _ {K V : Type 0} {f : Field K} (s : Space f V) (line : ℕ → V × V) (M : List ℕ) (e : ℕ) (tip outer : V) (cs : List (K × K))
+    (x : Exposed s line M e tip outer cs) (tip' outer' : V) (cs' : List (K × K)) (y : Exposed s line M e tip' outer' cs') (h : ℕ) (u w : V)
+    (ds : List (K × K)) (z : Exposed s line M h u w ds) (u' w' : V) (ds' : List (K × K)) (t : Exposed s line M h u' w' ds') where
   -- the outers of e and h are missed together, whichever they are
   pub same_outers : IsIndependent s (vectors line M ++ outer ∷ w ∷ []) → IsIndependent s (vectors line M ++ outer' ∷ w' ∷ [])
   same_outers i =

@@ -13,14 +13,17 @@ use Rattle.vector_spaces.proofs.Within.{placing, within_trans}
 
 module _ {K V : Type 0} {f : Field K} (s : Space f V) (line : ℕ → V × V) where
   -- the same lines in any order
-  pub regroup_lines : (L N : List ℕ) → IsIndependent s (vectors line L) → ((l : ℕ) → In l L → In l N) → length N ≤ length L → IsIndependent s (vectors line N)
-  regroup_lines L N i h k = same_length_independent s (vectors line L) (vectors line N) i (within_lines s line L N h) (let e1 = length-vectors line L in let e2 = length-vectors line N in omega arith)
+  pub regroup_lines : (L N : List ℕ) → IsIndependent s (vectors line L) → ((l : ℕ) → In l L → In l N) → length N ≤ length L →
+      IsIndependent s (vectors line N)
+  regroup_lines L N i h k = same_length_independent s (vectors line L) (vectors line N) i (within_lines s line L N h)
+      (let e1 = length-vectors line L in let e2 = length-vectors line N in omega arith)
 
   -- no line stands twice in an independent set
   pub independent_distinct : (M : List ℕ) → IsIndependent s (vectors line M) → IsDistinct M
   independent_distinct [] i = tt
   independent_distinct (m ∷ M) i = (
-    λ q. head_is_outside s (line m).0 ((line m).1 ∷ vectors line M) i (span_member f s ((line m).1 ∷ vectors line M) (line m).0 (inr (vectors_first line M m q))),
+    λ q. head_is_outside s (line m).0 ((line m).1 ∷ vectors line M) i
+        (span_member f s ((line m).1 ∷ vectors line M) (line m).0 (inr (vectors_first line M m q))),
     independent_distinct M (independent_right s (vectors line (m ∷ [])) (vectors line M) i),
   )
 
@@ -33,7 +36,8 @@ module _ {K V : Type 0} {f : Field K} (s : Space f V) (line : ℕ → V × V) wh
       IsIndependent s (vectors line (P ++ Q) ++ vectors line (l ∷ []))
   line_moved_last P l Q i =
       same_length_independent s (vectors line (P ++ l ∷ Q)) (vectors line (P ++ Q) ++ vectors line (l ∷ [])) i
-      (within_trans s (vectors line (P ++ l ∷ Q)) (vectors line (l ∷ P ++ Q)) (vectors line (P ++ Q) ++ vectors line (l ∷ [])) (within_middle s line P l Q)
+      (within_trans s (vectors line (P ++ l ∷ Q)) (vectors line (l ∷ P ++ Q)) (vectors line (P ++ Q) ++ vectors line (l ∷ []))
+      (within_middle s line P l Q)
       (search placing depth 10))
       (let e1 = length-vectors line (P ++ l ∷ Q) in let e2 = length-missing line (P ++ Q)
       (vectors line (l ∷ [])) in let e3 = length-middle P l Q in omega arith)

@@ -6,8 +6,9 @@ use Rattle.parity_theory.proofs.LineSets.{independent_distinct, line_independent
 use Rattle.parity_theory.proofs.Lines.{vectors, Misses}
 use Rattle.parity_theory.proofs.Places.{Place, inside, single, exposed, free, HasPlace, place_of_a_line, place_is_unique, tip_of_exposed, exposed_of_tip}
 use Rattle.parity_theory.proofs.Supports.{HaveCommonLine, decide_common_line}
+use Rattle.parity_theory.proofs.Widths.{two_missed}
 use Rattle.vector_spaces.proofs.Distinct.{IsDistinct}
-use Rattle.vector_spaces.proofs.Independence.{IsIndependent, append_outside, appended_is_outside, same_length_independent}
+use Rattle.vector_spaces.proofs.Independence.{IsIndependent, appended_is_outside, same_length_independent}
 use Rattle.vector_spaces.proofs.Members.{In}
 use Rattle.vector_spaces.proofs.Space.{Field, Space}
 use Rattle.vector_spaces.proofs.Span.{InSpan, decide_span}
@@ -32,18 +33,35 @@ module _ {K V : Type 0} {f : Field K} (s : Space f V) (line : ℕ → V × V) (M
   decide_outers u w i = go (decide_span f s (vectors line M ++ u ∷ []) w)
     where
       go : Dec (InSpan s (vectors line M ++ u ∷ []) w) → Dec (Misses s line M (u ∷ w ∷ []))
-      go (yes c) = no (λ j. appended_is_outside s (vectors line M ++ u ∷ []) w (subst (λ vs. IsIndependent s vs) (sym (append_assoc (vectors line M) (u ∷ []) (w ∷ []))) j) c)
-      go (no n) = yes (subst (λ vs. IsIndependent s vs) (append_assoc (vectors line M) (u ∷ []) (w ∷ [])) (append_outside s (vectors line M ++ u ∷ []) w i n))
+      go (yes c) = no (λ j. appended_is_outside s (vectors line M ++ u ∷ []) w
+          (subst (λ vs. IsIndependent s vs) (sym (append_assoc (vectors line M) (u ∷ []) (w ∷ []))) j) c)
+      go (no n) = yes (two_missed s line M u w i n)
 
   -- whichever tips and outers there are, they tell whether e and h overlap
-  module _ (e : ℕ) (tip outer : V) (cs : List (K × K)) (x : Exposed s line M e tip outer cs) (h : ℕ) (tip' outer' : V) (cs' : List (K × K)) (y : Exposed s line M h tip' outer' cs') where
+  module _ (e : ℕ) (tip outer : V) (cs : List (K × K)) (x : Exposed s line M e tip outer cs) (h : ℕ) (tip' outer' : V) (cs' : List (K × K))
+      (y : Exposed s line M h tip' outer' cs') where
     pub overlap_of : Misses s line M (outer ∷ outer' ∷ []) → HaveCommonLine f cs cs' M → Overlap s line M e h
-    overlap_of i k = record { tip = tip; outer = outer; cs = cs; tip' = tip'; outer' = outer'; cs' = cs'; first = x; second = y; outers = i; common = k }
+    overlap_of i k = record {
+      tip = tip;
+      outer = outer;
+      cs = cs;
+      tip' = tip';
+      outer' = outer';
+      cs' = cs';
+      first = x;
+      second = y;
+      outers = i;
+      common = k;
+    }
 
     pub overlap_only : Overlap s line M e h → Misses s line M (outer ∷ outer' ∷ []) × HaveCommonLine f cs cs' M
     overlap_only r = (
       same_outers s line M e r.tip r.outer r.cs r.first tip outer cs x h r.tip' r.outer' r.cs' r.second tip' outer' cs' y r.outers,
-      (r.common.0, same_support s line M e r.tip r.outer r.cs r.first tip outer cs x r.common.0 r.common.1, same_support s line M h r.tip' r.outer' r.cs' r.second tip' outer' cs' y r.common.0 r.common.2),
+      (
+        r.common.0,
+        same_support s line M e r.tip r.outer r.cs r.first tip outer cs x r.common.0 r.common.1,
+        same_support s line M h r.tip' r.outer' r.cs' r.second tip' outer' cs' y r.common.0 r.common.2,
+      ),
     )
 
     pub decide_overlap_of : Dec (Overlap s line M e h)
@@ -89,7 +107,8 @@ module _ {K V : Type 0} {f : Field K} (s : Space f V) (line : ℕ → V × V) (M
     cs' = r.cs;
     first = r.second;
     second = r.first;
-    outers = same_length_independent s (vectors line M ++ r.outer ∷ r.outer' ∷ []) (vectors line M ++ r.outer' ∷ r.outer ∷ []) r.outers (search placing depth 8) (omega (arith, length-append {A = V}));
+    outers = same_length_independent s (vectors line M ++ r.outer ∷ r.outer' ∷ []) (vectors line M ++ r.outer' ∷ r.outer ∷ []) r.outers
+        (search placing depth 8) (omega (arith, length-append {A = V}));
     common = (r.common.0, r.common.2, r.common.1);
   }
 
@@ -103,7 +122,8 @@ module _ {K V : Type 0} {f : Field K} (s : Space f V) (line : ℕ → V × V) (M
   overlapping_differ z = appended_is_outside s (vectors line M ++ ov.outer ∷ []) ov.outer'
       (subst (λ vs. IsIndependent s vs) (sym (append_assoc (vectors line M) (ov.outer ∷ []) (ov.outer' ∷ []))) ov.outers)
       (through s (vectors line (h ∷ [])) (vectors line M ++ ov.outer ∷ []) ov.outer'
-      (subst (λ t. Within s (vectors line (t ∷ [])) (vectors line M ++ ov.outer ∷ [])) z (exposed_within s line M e ov.tip ov.outer ov.cs ov.first))
+      (subst (λ t. Within s (vectors line (t ∷ [])) (vectors line M ++ ov.outer ∷ [])) z
+      (exposed_within s line M e ov.tip ov.outer ov.cs ov.first))
       (ov.second.tip_outer_in.each ov.outer' (inr (inl refl))))
 
   pub overlap_distinct : IsDistinct (e ∷ h ∷ M)

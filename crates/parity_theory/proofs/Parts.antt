@@ -70,7 +70,9 @@ pub in_parts-cons : (l : ℕ) (I : List ℕ) (ps : List (List ℕ × ℕ)) → i
 in_parts-cons l I [] = omega arith
 in_parts-cons l I (p ∷ ps) =
     let ih = in_parts-cons l I ps in
-    let e : length (filter (has p.0) (l ∷ I)) ≡ cond (has p.0 l) 1 0 + length (filter (has p.0) I) = elim (has p.0 l) as (λ b. length (cond b (l ∷ filter (has p.0) I) (filter (has p.0) I)) ≡ cond b 1 0 + length (filter (has p.0) I)) [ true ↦ omega arith | false ↦ omega arith ] in
+    let e : length (filter (has p.0) (l ∷ I)) ≡ cond (has p.0 l) 1 0 + length (filter (has p.0) I) =
+    elim (has p.0 l) as (λ b. length (cond b (l ∷ filter (has p.0) I) (filter (has p.0) I)) ≡ cond b 1 0 + length (filter (has p.0) I))
+    [ true ↦ omega arith | false ↦ omega arith ] in
     omega arith
 
 pub hits_of : (l : ℕ) (ps : List (List ℕ × ℕ)) → InPart l ps → 1 ≤ hits l ps
@@ -81,32 +83,38 @@ hits_of l (p ∷ ps) (inr i) = let e = hits_of l ps i in omega arith
 -- each in some part
 pub count_by_parts_le : (I : List ℕ) (ps : List (List ℕ × ℕ)) → ((l : ℕ) → In l I → InPart l ps) → length I ≤ in_parts I ps
 count_by_parts_le [] ps h = omega arith
-count_by_parts_le (l ∷ I) ps h = let e = in_parts-cons l I ps in let k = hits_of l ps (h l (inl refl)) in let ih = count_by_parts_le I ps (λ x i. h x (inr i)) in omega arith
+count_by_parts_le (l ∷ I) ps h = let e = in_parts-cons l I ps in let k = hits_of l ps (h l (inl refl)) in let ih =
+    count_by_parts_le I ps (λ x i. h x (inr i)) in omega arith
 
 -- each in one part
 pub count_by_parts : (I : List ℕ) (ps : List (List ℕ × ℕ)) → ((l : ℕ) → In l I → hits l ps ≡ 1) → length I ≡ in_parts I ps
 count_by_parts [] ps h = sym (in_parts-nil ps)
-count_by_parts (l ∷ I) ps h = let e = in_parts-cons l I ps in let k = h l (inl refl) in let ih = count_by_parts I ps (λ x i. h x (inr i)) in omega arith
+count_by_parts (l ∷ I) ps h = let e = in_parts-cons l I ps in let k = h l (inl refl) in let ih = count_by_parts I ps (λ x i. h x (inr i)) in
+    omega arith
 
 pub sub_behind : {X : Type 0} (ws us vs : List X) → IsSublist us vs → IsSublist (ws ++ us) (ws ++ vs)
 sub_behind [] us vs h = h
 sub_behind (w ∷ ws) us vs h = inr (ws ++ us, refl, sub_behind ws us vs h)
 
 module _ {K V : Type 0} {f : Field K} (s : Space f V) (line : ℕ → V × V) where
-  pub bound_by_parts : (B : List V) (I : List ℕ) (ps : List (List ℕ × ℕ)) → IsIndependent s (B ++ vectors line I) → PartsOver s line B ps → in_parts I ps ≤ halves ps
+  pub bound_by_parts : (B : List V) (I : List ℕ) (ps : List (List ℕ × ℕ)) → IsIndependent s (B ++ vectors line I) → PartsOver s line B ps →
+      in_parts I ps ≤ halves ps
   bound_by_parts B I [] i h = omega arith
   bound_by_parts B I (p ∷ ps) i h =
       let ih = bound_by_parts B I ps i h.1 in
       let J : List ℕ = filter (has p.0) I in
-      let j : IsIndependent s (B ++ vectors line J) = sublist_independent s (B ++ vectors line J) (B ++ vectors line I) i (sub_behind B (vectors line J) (vectors line I) (sub_vectors line J I (sub_filter (has p.0) I))) in
+      let j : IsIndependent s (B ++ vectors line J) = sublist_independent s (B ++ vectors line J) (B ++ vectors line I) i
+      (sub_behind B (vectors line J) (vectors line I) (sub_vectors line J I (sub_filter (has p.0) I))) in
       let k : length J + length J ≤ p.1 = part_count s line B J p.0 p.1 j (λ l q. has_in p.0 l (filter_only (has p.0) I l q)) h.0 in
       omega arith
 
   -- what an independent set has is at most the kernel and the halves of the parts
-  pub bound_limits_independent_sets : (B : List V) (ps : List (List ℕ × ℕ)) (I : List ℕ) → IsIndependent s B → PartsOver s line B ps → ((l : ℕ) → In l I → InPart l ps) → IsIndependent s (vectors line I) → length I ≤ length B + halves ps
+  pub bound_limits_independent_sets : (B : List V) (ps : List (List ℕ × ℕ)) (I : List ℕ) → IsIndependent s B → PartsOver s line B ps →
+      ((l : ℕ) → In l I → InPart l ps) → IsIndependent s (vectors line I) → length I ≤ length B + halves ps
   bound_limits_independent_sets B ps I b h c i =
       let r = kernel_costs_its_length s line I [] B (rw (append-nil (vectors line I)) i) b in
-      let j : IsIndependent s (B ++ vectors line r.0) = same_length_independent s (vectors line r.0 ++ B) (B ++ vectors line r.0) r.2 (search placing) (omega (arith, length-append {A = V})) in
+      let j : IsIndependent s (B ++ vectors line r.0) = same_length_independent s (vectors line r.0 ++ B) (B ++ vectors line r.0) r.2
+      (search placing) (omega (arith, length-append {A = V})) in
       let k = count_by_parts_le r.0 ps (λ l q. c l (sub_in r.0 I r.1 l q)) in
       let m = bound_by_parts B r.0 ps j h in
       let e = r.3 in

@@ -22,14 +22,16 @@ module _ {K V : Type 0} {f : Field K} (s : Space f V) (line : ℕ → V × V) wh
   pub wide_or_narrow : (M : List ℕ) (X : List V) → IsIndependent s (vectors line M) → IsWide s line M X ⊎ IsNarrow s line M X
   wide_or_narrow M X i = let r = has_rank_over s (vectors line M) X i in go r.chosen r.chosen_in r.independent r.spans
     where
-      go : (B : List V) → ((v : V) → In v B → In v X) → IsIndependent s (vectors line M ++ B) → Within s X (vectors line M ++ B) → IsWide s line M X ⊎ IsNarrow s line M X
+      go : (B : List V) → ((v : V) → In v B → In v X) → IsIndependent s (vectors line M ++ B) → Within s X (vectors line M ++ B) →
+          IsWide s line M X ⊎ IsNarrow s line M X
       go [] h j w = inr (inl (subst (λ L. Within s X L) (append-nil (vectors line M)) w))
       go (a ∷ []) h j w = inr (inr (a, h a (inl refl), j, w))
       go (a ∷ b ∷ B) h j w = let k = (append_independent s (vectors line M) (a ∷ b ∷ B) j).1 in
           inl (a, b, h a (inl refl), h b (inr (inl refl)), independent_append s (vectors line M) (a ∷ b ∷ []) i (k.0, (k.1.0, tt)))
 
   -- over a narrow list no two vectors of its span are missed independently
-  pub narrow_excludes : (M : List ℕ) (X : List V) (x y : V) → IsNarrow s line M X → InSpan s X x → InSpan s X y → ¬ (Misses s line M (x ∷ y ∷ []))
+  pub narrow_excludes : (M : List ℕ) (X : List V) (x y : V) → IsNarrow s line M X → InSpan s X x → InSpan s X y →
+      ¬ (Misses s line M (x ∷ y ∷ []))
   narrow_excludes M X x y (inl w) hx hy i =
       let kx : InSpan s (vectors line M) x = through s X (vectors line M) x w hx in
       let ky : InSpan s (vectors line M) y = through s X (vectors line M) y w hy in
@@ -58,22 +60,31 @@ module _ {K V : Type 0} {f : Field K} (s : Space f V) (line : ℕ → V × V) wh
 
   -- two vectors missed together, in the other order
   pub misses_turned : (M : List ℕ) (a b : V) → Misses s line M (a ∷ b ∷ []) → Misses s line M (b ∷ a ∷ [])
-  misses_turned M a b i = regroup s (vectors line M ++ a ∷ b ∷ []) (vectors line M ++ b ∷ a ∷ []) i turn (omega (arith, length-append (vectors line M) (a ∷ b ∷ []), length-append (vectors line M) (b ∷ a ∷ [])))
+  misses_turned M a b i = regroup s (vectors line M ++ a ∷ b ∷ []) (vectors line M ++ b ∷ a ∷ []) i turn
+      (omega (arith, length-append (vectors line M) (a ∷ b ∷ []), length-append (vectors line M) (b ∷ a ∷ [])))
     where
       turn : (v : V) → In v (vectors line M ++ a ∷ b ∷ []) → In v (vectors line M ++ b ∷ a ∷ [])
-      turn v j = elim (In-append v (vectors line M) (a ∷ b ∷ []) j)
-          [ inl k ↦ In-append_left v (vectors line M) (b ∷ a ∷ []) k | inr k ↦ In-append_right v (vectors line M) (b ∷ a ∷ []) (elim k [ inl e ↦ inr (inl e) | inr l ↦ elim l [ inl e ↦ inl e | inr o ↦ absurd o ] ]) ]
+      turn v j = elim (In-append v (vectors line M) (a ∷ b ∷ []) j) [
+        | inl k ↦ In-append_left v (vectors line M) (b ∷ a ∷ []) k
+        | inr k ↦ In-append_right v (vectors line M) (b ∷ a ∷ [])
+            (elim k [ inl e ↦ inr (inl e) | inr l ↦ elim l [ inl e ↦ inl e | inr o ↦ absurd o ] ])
+      ]
 
   -- missed one after the other
   pub two_missed : (M : List ℕ) (a b : V) → Misses s line M (a ∷ []) → ¬ (InSpan s (vectors line M ++ a ∷ []) b) → Misses s line M (a ∷ b ∷ [])
   two_missed M a b i n = rw append_assoc at (append_outside s (vectors line M ++ a ∷ []) b i n)
 
   -- a and b are of the line i, and M misses both: i is free over M
-  pub free_of_pair : (M : List ℕ) (i : ℕ) (a b : V) → In a (vectors line (i ∷ [])) → In b (vectors line (i ∷ [])) → Misses s line M (a ∷ b ∷ []) → IsFree s line M i
+  pub free_of_pair : (M : List ℕ) (i : ℕ) (a b : V) → In a (vectors line (i ∷ [])) → In b (vectors line (i ∷ [])) →
+      Misses s line M (a ∷ b ∷ []) → IsFree s line M i
   free_of_pair M i a b j k h = same_length_independent s (vectors line M ++ a ∷ b ∷ []) (vectors line M ++ vectors line (i ∷ [])) h
-      (within_append s (vectors line M) (a ∷ b ∷ []) (vectors line M ++ vectors line (i ∷ [])) (within_left s (vectors line M) (vectors line M) (vectors line (i ∷ [])) (within_self s (vectors line M)))
-      (within_cons s a (b ∷ []) (vectors line M ++ vectors line (i ∷ [])) (right_in s (vectors line M) (vectors line (i ∷ [])) a (span_member f s (vectors line (i ∷ [])) a j))
-      (within_cons s b [] (vectors line M ++ vectors line (i ∷ [])) (right_in s (vectors line M) (vectors line (i ∷ [])) b (span_member f s (vectors line (i ∷ [])) b k)) (within_nil s (vectors line M ++ vectors line (i ∷ []))))))
+      (within_append s (vectors line M) (a ∷ b ∷ []) (vectors line M ++ vectors line (i ∷ []))
+      (within_left s (vectors line M) (vectors line M) (vectors line (i ∷ [])) (within_self s (vectors line M)))
+      (within_cons s a (b ∷ []) (vectors line M ++ vectors line (i ∷ []))
+      (right_in s (vectors line M) (vectors line (i ∷ [])) a (span_member f s (vectors line (i ∷ [])) a j))
+      (within_cons s b [] (vectors line M ++ vectors line (i ∷ []))
+      (right_in s (vectors line M) (vectors line (i ∷ [])) b (span_member f s (vectors line (i ∷ [])) b k))
+      (within_nil s (vectors line M ++ vectors line (i ∷ []))))))
       (omega (arith, length-append (vectors line M) (a ∷ b ∷ []), length-append (vectors line M) (vectors line (i ∷ []))))
 
   pub decide_free : (M : List ℕ) (e : ℕ) → IsIndependent s (vectors line M) → Dec (IsFree s line M e)

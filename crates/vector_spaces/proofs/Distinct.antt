@@ -63,12 +63,14 @@ pub distinct_at_most : {X : Type 0} (us vs : List X) → IsDistinct us → ((x :
 distinct_at_most [] vs d h = omega arith
 distinct_at_most (u ∷ us) vs d h =
     let r = in_split u vs (h u (inl refl)) in
-    let others : (x : _) → In x us → In x (r.0 ++ r.1) = λ x i. in_others r.0 u r.1 x (subst (λ t. In x t) r.2 (h x (inr i))) (λ e. d.0 (subst (λ t. In t us) e i)) in
+    let others : (x : _) → In x us → In x (r.0 ++ r.1) = λ x i. in_others r.0 u r.1 x (subst (λ t. In x t) r.2 (h x (inr i)))
+    (λ e. d.0 (subst (λ t. In t us) e i)) in
     let k = distinct_at_most us (r.0 ++ r.1) d.1 others in
     let e : length vs ≡ suc (length (r.0 ++ r.1)) = ap length r.2 ∙ length-middle r.0 u r.1 in
     omega arith
 
 -- distinct lists with the same members are as long
-pub distinct_same_length : {X : Type 0} (us vs : List X) → IsDistinct us → IsDistinct vs → ((x : X) → In x us → In x vs) → ((x : X) → In x vs → In x us) →
+pub distinct_same_length : {X : Type 0} (us vs : List X) → IsDistinct us → IsDistinct vs → ((x : X) → In x us → In x vs) →
+    ((x : X) → In x vs → In x us) →
     length us ≡ length vs
 distinct_same_length us vs d e h k = let a = distinct_at_most us vs d h in let b = distinct_at_most vs us e k in omega arith

@@ -1,20 +1,36 @@
--- The meeting of two spans. Each of ws is in the span of news, which are independent over vs, and of xs, which are in the span of vs.
+-- The meeting of two spans: a basis of the vectors in both. A vector in both where two independent lists are dependent together.
 use Rattle.std.proofs.Common.{◌≡◌, ◌≢◌, ◌+◌, ◌≤◌, inl, inr, List, [], ◌∷◌, ◌++◌, length, refl, sym, ap, ◌∙◌, subst, arith}
 use Rattle.std.proofs.lemmas.List.{length-append}
+use Rattle.vector_spaces.proofs.Bases.{HasRankOver, has_rank_over}
 use Rattle.vector_spaces.proofs.Independence.{IsIndependent, same_length_independent, independent_left, cons_outside, head_is_outside}
 use Rattle.vector_spaces.proofs.Members.{In}
 use Rattle.vector_spaces.proofs.Space.{Field, Space, move}
 use Rattle.vector_spaces.proofs.Span.{InSpan, span_null, span_minus, span_plus, span_scale, span_member, decide_span}
 use Rattle.vector_spaces.proofs.Splits.{span_split, common_is_null}
-use Rattle.vector_spaces.proofs.Within.{Within, through, left_in, right_in}
+use Rattle.vector_spaces.proofs.Within.{Within, placing, through, left_in, right_in, within_append, within_cons, within_left, within_members, within_more, within_nil, within_trans}
+
+-- xs are a basis of the vectors that ys and ws both span
+pub record IsSpanMeeting {K V : Type 0} {f : Field K} (s : Space f V) (ys ws xs : List V) : Type 0 where
+  pub independent : IsIndependent s xs
+  pub first : Within s xs ys
+  pub second : Within s xs ws
+  pub all : (v : V) → InSpan s ys v → InSpan s ws v → InSpan s xs v
+
+-- the parts of ws in the span of vs
+record CommonParts {K V : Type 0} {f : Field K} (s : Space f V) (vs news ws some : List V) : Type 0 where
+  pub parts : List V
+  pub first : Within s parts vs
+  pub second : Within s parts ws
+  pub rest : Within s some (parts ++ news)
 
 module _ {K V : Type 0} {f : Field K} (s : Space f V) where
   infixl 65 ◌⊕◌
   infixl 70 ◌·◌
   open s use {null, ◌⊕◌, ◌·◌}
 
-  -- xs span the meeting of the spans of vs and ws
-  pub meet_within : (vs news xs ws : List V) (x : V) → IsIndependent s (vs ++ news) → Within s xs vs → Within s ws (xs ++ news) → InSpan s vs x → InSpan s ws x → InSpan s xs x
+  -- news are independent over vs, xs in the span of vs, and both together span ws: xs span the meeting of vs and ws
+  pub meet_within : (vs news xs ws : List V) (x : V) → IsIndependent s (vs ++ news) → Within s xs vs → Within s ws (xs ++ news) →
+      InSpan s vs x → InSpan s ws x → InSpan s xs x
   meet_within vs news xs ws x i hx hw c k =
       let r = span_split s xs news x (through s ws (xs ++ news) x hw k) in
       let e : x ≡ r.1 ⊕ r.0 = r.4 ∙ s.plus_comm r.0 r.1 in
@@ -24,15 +40,19 @@ module _ {K V : Type 0} {f : Field K} (s : Space f V) where
 
   -- w of ws is the sum of x of xs and n of the span of news
   pub old_in : (news xs : List V) (w x n : V) → In x xs → InSpan s news n → w ≡ x ⊕ n → InSpan s (xs ++ news) w
-  old_in news xs w x n i h e = subst (λ t. InSpan s (xs ++ news) t) (sym e) (span_plus f s (xs ++ news) x n (left_in s xs news x (span_member f s xs x i)) (right_in s xs news n h))
+  old_in news xs w x n i h e = subst (λ t. InSpan s (xs ++ news) t) (sym e)
+      (span_plus f s (xs ++ news) x n (left_in s xs news x (span_member f s xs x i)) (right_in s xs news n h))
 
   -- so that x is in the span of ws, if the new ones are
   pub meet_in : (news ws : List V) (w x n : V) → Within s news ws → In w ws → InSpan s news n → w ≡ x ⊕ n → InSpan s ws x
-  meet_in news ws w x n h i k e = subst (λ t. InSpan s ws t) (move f s w n x e) (span_minus f s ws w n (span_member f s ws w i) (through s news ws n h k))
+  meet_in news ws w x n h i k e = subst (λ t. InSpan s ws t) (move f s w n x e)
+      (span_minus f s ws w n (span_member f s ws w i) (through s news ws n h k))
 
   -- and xs is independent where ws is
-  pub meet_independent : (news xs ws : List V) → IsIndependent s ws → Within s ws (xs ++ news) → length xs + length news ≤ length ws → IsIndependent s xs
-  meet_independent news xs ws i h e = independent_left s xs news (same_length_independent s ws (xs ++ news) i h (let k = length-append xs news in omega arith))
+  pub meet_independent : (news xs ws : List V) → IsIndependent s ws → Within s ws (xs ++ news) → length xs + length news ≤ length ws →
+      IsIndependent s xs
+  meet_independent news xs ws i h e =
+      independent_left s xs news (same_length_independent s ws (xs ++ news) i h (let k = length-append xs news in omega arith))
 
   -- u and v are independent, and so are vs, but not both together: the spans have a vector in common that is not null
   pub common_vector : (u v : V) (vs : List V) → IsIndependent s (u ∷ v ∷ []) → IsIndependent s vs → ¬ (IsIndependent s (u ∷ v ∷ vs)) →
@@ -58,3 +78,40 @@ module _ {K V : Type 0} {f : Field K} (s : Space f V) where
       go : Dec (InSpan s vs v) → (t : V) × (t ≢ null) × InSpan s (u ∷ v ∷ []) t × InSpan s vs t
       go (yes c) = (v, λ z. own.1.0 (subst (λ y. InSpan s (u ∷ []) y) (sym z) (span_null f s (u ∷ []))), second, c)
       go (no n) = go_first n (decide_span f s (v ∷ vs) u)
+
+  -- from an elimination: news are independent over vs, and xs with news span ws
+  pub span_meeting : (vs news xs ws : List V) → IsIndependent s (vs ++ news) → IsIndependent s xs → Within s xs vs → Within s xs ws →
+      Within s ws (xs ++ news) → IsSpanMeeting s vs ws xs
+  span_meeting vs news xs ws i j h k w = record { independent = j; first = h; second = k; all = λ v c d. meet_within vs news xs ws v i h w c d }
+
+  common_parts : (vs news ws some : List V) → Within s news ws → ((w : V) → In w some → In w ws) → Within s some (vs ++ news) →
+      CommonParts s vs news ws some
+  common_parts vs news ws [] n inside h = record { parts = []; first = within_nil s vs; second = within_nil s ws; rest = within_nil s news }
+  common_parts vs news ws (w ∷ some) n inside h =
+      let r = common_parts vs news ws some n (λ x i. inside x (inr i)) (record { each = λ x i. h.each x (inr i) }) in
+      let t = span_split s vs news w (h.each w (inl refl)) in
+      record {
+        parts = t.0 ∷ r.parts;
+        first = within_cons s t.0 r.parts vs t.2 r.first;
+        second = within_cons s t.0 r.parts ws (meet_in news ws w t.0 t.1 n (inside w (inl refl)) t.3 t.4) r.second;
+        rest = within_cons s w some (t.0 ∷ r.parts ++ news) (old_in news (t.0 ∷ r.parts) w t.0 t.1 (inl refl) t.3 t.4)
+            (within_more s some (r.parts ++ news) t.0 r.rest);
+      }
+
+  pub some_span_meeting : (vs ws : List V) → IsIndependent s vs → (xs : List V) × IsSpanMeeting s vs ws xs
+  some_span_meeting vs ws i = go (has_rank_over s vs ws i)
+    where
+      of_parts : (n : _) (r : HasRankOver s vs ws n) → (c : CommonParts s vs r.chosen ws ws) → (m : _) → HasRankOver s [] c.parts m →
+          (xs : List V) × IsSpanMeeting s vs ws xs
+      of_parts n r c m b = (
+        b.chosen,
+        span_meeting vs r.chosen b.chosen ws r.independent b.independent
+            (within_trans s b.chosen c.parts vs (within_members s b.chosen c.parts b.chosen_in) c.first)
+            (within_trans s b.chosen c.parts ws (within_members s b.chosen c.parts b.chosen_in) c.second)
+            (within_trans s ws (c.parts ++ r.chosen) (b.chosen ++ r.chosen) c.rest
+            (within_append s c.parts r.chosen (b.chosen ++ r.chosen) (within_left s c.parts b.chosen r.chosen b.spans) (search placing))),
+      )
+
+      go : {n : _} → HasRankOver s vs ws n → (xs : List V) × IsSpanMeeting s vs ws xs
+      go {n} r = let c = common_parts vs r.chosen ws ws (within_members s r.chosen ws r.chosen_in) (λ w j. j) r.spans in
+          of_parts n r c _ (has_rank_over s [] c.parts tt)

@@ -1,5 +1,5 @@
 -- Tuples modulo a point, at any coordinate at which the point is not zero: tuples of one coordinate less.
-use Rattle.std.proofs.Common.{◌≡◌, ◌≢◌, ℕ, zero, suc, ◌≤◌, refl, sym, ap, ◌∙◌, arith}
+use Rattle.std.proofs.Common.{◌≡◌, ◌≢◌, ℕ, zero, suc, ◌≤◌, refl, sym, ap, ap₂, ◌∙◌, arith}
 use Rattle.vector_spaces.proofs.CoordinateQuotients.{IsCoordinate, coordinate_quotient, coordinate_quotient-project, coordinate_quotient-lift}
 use Rattle.vector_spaces.proofs.LinearMaps.{IsLinear, at-linear}
 use Rattle.vector_spaces.proofs.Quotients.{Quotient}
@@ -62,14 +62,32 @@ module _ {K : Type 0} (f : Field K) where
     module _ (p : Tuple K (suc d)) (n : at f (suc d) i p ≢ o) where
       -- the tuples modulo p
       pub tuple_quotient : Quotient (tuples f (suc d)) (tuples f d) p
-      tuple_quotient = coordinate_quotient (tuples f (suc d)) (tuples f d) (at f (suc d) i) (tuple_without d i) (tuple_with_zero f d i) tuple_coordinate p n
+      tuple_quotient = coordinate_quotient (tuples f (suc d)) (tuples f d) (at f (suc d) i) (tuple_without d i)
+          (tuple_with_zero f d i) tuple_coordinate p n
 
       -- the projection by any factor that clears the coordinate
       pub tuple_quotient-project : (v : Tuple K (suc d)) (c : K) → f.◌⊞◌ (f.◌⊠◌ c (at f (suc d) i p)) (at f (suc d) i v) ≡ o →
           tuple_quotient.project v ≡ tuple_without d i ((tuples f (suc d)).◌⊕◌ v ((tuples f (suc d)).◌·◌ c p))
       unfolding tuple_quotient
-      tuple_quotient-project v c e = coordinate_quotient-project (tuples f (suc d)) (tuples f d) (at f (suc d) i) (tuple_without d i) (tuple_with_zero f d i) tuple_coordinate p n v c e
+      tuple_quotient-project v c e = coordinate_quotient-project (tuples f (suc d)) (tuples f d) (at f (suc d) i) (tuple_without d i)
+          (tuple_with_zero f d i) tuple_coordinate p n v c e
 
       pub tuple_quotient-lift : (w : Tuple K d) → tuple_quotient.lift w ≡ tuple_with_zero f d i w
       unfolding tuple_quotient
-      tuple_quotient-lift w = coordinate_quotient-lift (tuples f (suc d)) (tuples f d) (at f (suc d) i) (tuple_without d i) (tuple_with_zero f d i) tuple_coordinate p n w
+      tuple_quotient-lift w = coordinate_quotient-lift (tuples f (suc d)) (tuples f d) (at f (suc d) i) (tuple_without d i)
+          (tuple_with_zero f d i) tuple_coordinate p n w
+
+module _ {K : Type 0} (f : Field K) where
+  -- a tuple that is not null is not zero at some coordinate
+  pub coordinate_not_zero : (d : ℕ) (v : Tuple K (suc d)) → v ≢ (tuples f (suc d)).null → (i : ℕ) × (i ≤ d) × (at f (suc d) i v ≢ f.zero)
+  coordinate_not_zero zero v n = (zero, omega arith, λ e. n (ap₂ (λ a t. (a, t)) e refl))
+  coordinate_not_zero (suc d) v n = go (f.same_scalar v.0 f.zero) (coordinate_not_zero d v.1)
+    where
+      go : Dec (v.0 ≡ f.zero) → (v.1 ≢ (tuples f (suc d)).null → (i : ℕ) × (i ≤ d) × (at f (suc d) i v.1 ≢ f.zero)) →
+          (i : ℕ) × (i ≤ suc d) × (at f (suc (suc d)) i v ≢ f.zero)
+      go (no m) h = (zero, omega arith, m)
+      go (yes e) h = let r = h (λ z. n (ap₂ (λ a t. (a, t)) e z)) in (suc r.0, (let b = r.1 in omega arith), r.2)
+
+  -- so the tuples modulo it are those with one coordinate less
+  pub quotient_of_tuples : (d : ℕ) (p : Tuple K (suc d)) → p ≢ (tuples f (suc d)).null → Quotient (tuples f (suc d)) (tuples f d) p
+  quotient_of_tuples d p n = let r = coordinate_not_zero d p n in tuple_quotient f d r.0 r.1 p r.2

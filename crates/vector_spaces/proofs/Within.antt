@@ -66,10 +66,23 @@ module _ {K V : Type 0} {f : Field K} (s : Space f V) where
   first_outside [] ws = inl (within_nil ws)
   first_outside (v ∷ vs) ws = go (decide_span f s ws v) (first_outside vs ws)
     where
-      go : Dec (InSpan s ws v) → Within s vs ws ⊎ ((a : V) × In a vs × ¬ (InSpan s ws a)) → Within s (v ∷ vs) ws ⊎ ((a : V) × In a (v ∷ vs) × ¬ (InSpan s ws a))
+      go : Dec (InSpan s ws v) → Within s vs ws ⊎ ((a : V) × In a vs × ¬ (InSpan s ws a)) →
+          Within s (v ∷ vs) ws ⊎ ((a : V) × In a (v ∷ vs) × ¬ (InSpan s ws a))
       go (no n) r = inr (v, inl refl, n)
       go (yes c) (inl h) = inl (within_cons v vs ws c h)
       go (yes c) (inr h) = inr (h.0, inr h.1, h.2)
 
 -- places a list within the span of an append that holds it
-pub ruleset placing = (within_append, within_cons, within_nil, within_more, within_left, within_right, head_in, left_in, right_in, span_more, within_self)
+pub ruleset placing = (
+  within_append,
+  within_cons,
+  within_nil,
+  within_more,
+  within_left,
+  within_right,
+  head_in,
+  left_in,
+  right_in,
+  span_more,
+  within_self,
+)
