@@ -22,7 +22,8 @@ block_cycle_of_triangles Ts c cs h = let r = chain_of_shared cs c.0 c.1 h.shared
   record { two = h.two; inside = h.inside; blocks = h.triples; corners = h.vertices; chain = (r.2, h.shared.0, r.1) },
 )
 
-pub triangles_of_block_cycle : (Ts : List (ℕ × ℕ × ℕ)) (p : ℕ) (c : (ℕ × ℕ × ℕ) × ℕ) (cs : List ((ℕ × ℕ × ℕ) × ℕ)) → IsBlockCycle corners Ts p (c ∷ cs) →
+pub triangles_of_block_cycle : (Ts : List (ℕ × ℕ × ℕ)) (p : ℕ) (c : (ℕ × ℕ × ℕ) × ℕ) (cs : List ((ℕ × ℕ × ℕ) × ℕ)) →
+    IsBlockCycle corners Ts p (c ∷ cs) →
     IsTriangleCycle Ts c cs
 triangles_of_block_cycle Ts p c cs h = let r = shared_of_chain c.1 cs p c.0 h.chain.2 h.chain.0 in
     record { two = h.two; inside = h.inside; triples = h.blocks; vertices = h.corners; shared = (h.chain.1, r.1, r.0) }

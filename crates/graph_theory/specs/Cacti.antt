@@ -1,5 +1,5 @@
 -- Triangles of a graph, and triangle cacti: sets of triangles in which no triangles make a cycle.
-use Rattle.std.specs.Prelude.{◌≡◌, ℕ, ◌≤◌, ◌<◌, ◌⊎◌, List, [], ◌∷◌, map, length, ⊤}
+use Rattle.std.specs.Prelude.{◌≡◌, ℕ, ◌≤◌, ◌<◌, ◌⊎◌, List, [], ◌∷◌, map, length, slice_index_or, ⊤}
 use Rattle.vector_spaces.proofs.Members.{In}
 use Rattle.vector_spaces.proofs.Distinct.{IsDistinct}
 use Rattle.graph_theory.specs.Walks.{AreAdjacent}
@@ -19,6 +19,10 @@ IsBefore t u = (t.0 < u.0) ⊎ ((t.0 ≡ u.0) × ((t.1 < u.1) ⊎ ((t.1 ≡ u.1)
 abbrev pub IsLexicographic : List (ℕ × ℕ × ℕ) → Type 0
 IsLexicographic [] = ⊤
 IsLexicographic (t ∷ Ts) = ((u : ℕ × ℕ × ℕ) → In u Ts → IsBefore t u) × IsLexicographic Ts
+
+-- the triple with the number i
+abbrev pub triple_at : List (ℕ × ℕ × ℕ) → ℕ → ℕ × ℕ × ℕ
+triple_at Ts i = slice_index_or Ts i (0, 0, 0)
 
 -- all triangles of the graph, each once, in order
 pub record AreTriangles (E : List (ℕ × ℕ)) (Ts : List (ℕ × ℕ × ℕ)) : Type 0 where
