@@ -21,15 +21,15 @@ weight C [] cs = 0
 weight C (s ∷ S) [] = 0
 weight C (s ∷ S) (c ∷ cs) = c * count s C + weight C S cs
 
-pub coefficient-here : (s : ℕ) (S : List ℕ) (c : ℕ) (cs : List ℕ) → coefficient (s ∷ S) (c ∷ cs) s ≡ c + coefficient S cs s
+coefficient-here : (s : ℕ) (S : List ℕ) (c : ℕ) (cs : List ℕ) → coefficient (s ∷ S) (c ∷ cs) s ≡ c + coefficient S cs s
 unfolding coefficient
 coefficient-here s S c cs = ap (λ t. cond t c 0 + coefficient S cs s) (eq-eqb s s refl)
 
-pub coefficient-other : (s : ℕ) (S : List ℕ) (c : ℕ) (cs : List ℕ) (x : ℕ) → s ≢ x → coefficient (s ∷ S) (c ∷ cs) x ≡ coefficient S cs x
+coefficient-other : (s : ℕ) (S : List ℕ) (c : ℕ) (cs : List ℕ) (x : ℕ) → s ≢ x → coefficient (s ∷ S) (c ∷ cs) x ≡ coefficient S cs x
 unfolding coefficient
 coefficient-other s S c cs x n = ap (λ t. cond t c 0 + coefficient S cs x) (ne_eqb s x n) ∙ omega arith
 
-pub coefficient-none : (S cs : List ℕ) (x : ℕ) → count x S ≡ 0 → coefficient S cs x ≡ 0
+coefficient-none : (S cs : List ℕ) (x : ℕ) → count x S ≡ 0 → coefficient S cs x ≡ 0
 unfolding coefficient
 coefficient-none [] cs x h = refl
 coefficient-none (s ∷ S) [] x h = refl
@@ -74,7 +74,7 @@ weight-total [] S cs = weight-none S cs
 weight-total (x ∷ C) S cs = weight-cons x C S cs ∙ ap (λ t. coefficient S cs x + t) (weight-total C S cs)
 
 -- the coefficients of different edges are even where the sums of each edge are
-pub items_even : (S cs : List ℕ) → ((e : ℕ) → count e S ≤ 1) → length cs ≡ length S
+items_even : (S cs : List ℕ) → ((e : ℕ) → count e S ≤ 1) → length cs ≡ length S
     → ((e : ℕ) → 1 ≤ count e S → coefficient S cs e % 2 ≡ 0) → (c : ℕ)
     → 1 ≤ count c cs → c % 2 ≡ 0
 items_even S [] D l h c i = absurd (omega (arith, i, count-nil c))
@@ -96,7 +96,7 @@ items_even (s ∷ S) (c ∷ cs) D l h d i = go (ℕ_discrete c d) (λ j. items_e
         omega (arith, q, k, coefficient-here s S c cs, coefficient-none S cs s s_out)
     go (no n) ih = ih (omega (arith, i, count-other d c cs n))
 
-pub coefficient-map : (f : ℕ → ℕ) (S : List ℕ) → ((e : ℕ) → count e S ≤ 1) → (x : ℕ) → 1 ≤ count x S → coefficient S (map f S) x ≡ f x
+coefficient-map : (f : ℕ → ℕ) (S : List ℕ) → ((e : ℕ) → count e S ≤ 1) → (x : ℕ) → 1 ≤ count x S → coefficient S (map f S) x ≡ f x
 coefficient-map f [] D x i = absurd (omega (arith, i, count-nil x))
 coefficient-map f (s ∷ S) D x i = go (ℕ_discrete s x) (λ j. coefficient-map f S (λ e. omega (arith, D e, count-append e (s ∷ []) S)) x j)
   where

@@ -22,7 +22,7 @@ module _ (ends : ℕ → ℕ × ℕ) where
     pub covers : (e : ℕ) → 1 ≤ count e (flat P) → 1 ≤ count (ends e).0 X + count (ends e).1 X
     pub at : (v : ℕ) → 1 ≤ count v X → (e : ℕ) × (1 ≤ count e (flat P)) × (((ends e).0 ≡ v) ⊎ ((ends e).1 ≡ v))
 
-  pub common_ends : (P : List (ℕ × ℕ)) → AllHaveCommonEnd ends P → CommonEnds P
+  common_ends : (P : List (ℕ × ℕ)) → AllHaveCommonEnd ends P → CommonEnds P
   common_ends [] s = record {
     X = [];
     long = refl;

@@ -53,7 +53,7 @@ module _ (ends : ℕ → ℕ × ℕ) (H : List ℕ) (single : (e : ℕ) → coun
   rest_out = outside ends H X
 
   -- an edge of the marks stands with its end
-  pub bound : (D' : List Mark) → ((m : Mark) → In m D' → TwoInto ends H X m) → (c : ℕ)
+  bound : (D' : List Mark) → ((m : Mark) → In m D' → TwoInto ends H X m) → (c : ℕ)
       → count c (firsts D') + count c (seconds D') ≤ count (ends c).0 (mark_vertices D') + count (ends c).1 (mark_vertices D')
   bound [] t c = omega (arith, count-nil c)
   bound (m ∷ D') t c = omega (

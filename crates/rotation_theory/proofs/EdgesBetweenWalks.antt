@@ -20,7 +20,7 @@ use Rattle.rotation_theory.proofs.Swaps.{swap_split}
 use Rattle.rotation_theory.proofs.Uniqueness.{walks_unique}
 use Rattle.rotation_theory.proofs.Vertices.{rotation_distinct}
 
-pub turn_end : (d : ℕ) (w : List ℕ) → 1 ≤ count d w → (s : List ℕ) × ((X : List (List ℕ)) → SameCycles (w ∷ X) ((s ++ d ∷ []) ∷ X))
+turn_end : (d : ℕ) (w : List ℕ) → 1 ≤ count d w → (s : List ℕ) × ((X : List (List ℕ)) → SameCycles (w ∷ X) ((s ++ d ∷ []) ∷ X))
 turn_end d w h = let s = split_at d w h in (
   s.v ++ s.u,
   λ X. subst (λ t. SameCycles (t ∷ X) (((s.v ++ s.u) ++ d ∷ []) ∷ X)) (append_assoc s.u (d ∷ []) s.v ∙ sym s.is)
@@ -52,14 +52,14 @@ put_of ends x p L L1 P = record {
   how = inr (P.u, p, P.v, refl, P.how);
 }
 
-pub after_of : (ends : ℕ → ℕ × ℕ) (c : ℕ → ℕ) (x p : ℕ) (L L1 : List (List ℕ)) → DartPutAfter ends x p L L1 → (s' : List ℕ)
+after_of : (ends : ℕ → ℕ × ℕ) (c : ℕ → ℕ) (x p : ℕ) (L L1 : List (List ℕ)) → DartPutAfter ends x p L L1 → (s' : List ℕ)
     → CornerAfter c x L L1 (s' ++ c p ∷ [])
 after_of ends c x p L L1 P s' =
     subst (λ t. CornerAfter c x t L1 (s' ++ c p ∷ [])) (sym P.was)
     (subst (λ t. CornerAfter c x (P.U ++ (P.u ++ p ∷ P.v) ∷ P.Y) t (s' ++ c p ∷ [])) (sym P.is)
     (corner_after c x p P.U P.u P.v P.l1 P.Y s' P.how))
 
-pub put_in : (ends : ℕ → ℕ × ℕ) (x p : ℕ) (L L1 : List (List ℕ)) → DartPutAfter ends x p L L1 → 1 ≤ count_all p L
+put_in : (ends : ℕ → ℕ × ℕ) (x p : ℕ) (L L1 : List (List ℕ)) → DartPutAfter ends x p L L1 → 1 ≤ count_all p L
 put_in ends x p L L1 P =
     let l : SameCycles (P.U ++ (P.u ++ p ∷ P.v) ∷ P.Y) ((P.u ++ p ∷ P.v) ∷ P.U ++ P.Y) = same_front P.U (P.u ++ p ∷ P.v) P.Y in
     omega (
@@ -74,10 +74,10 @@ put_in ends x p L L1 P =
 module _ (ends : ℕ → ℕ × ℕ) (V : ℕ) where
   module _ (H : List ℕ) (e : ℕ) (free : count e H ≡ 0) (below : AreBelow V (ends e)) (L L1 L2 : List (List ℕ))
       (R : IsRotation ends V H L) where
-    abbrev pub x : ℕ
+    abbrev x : ℕ
     x = dart e
 
-    abbrev pub y : ℕ
+    abbrev y : ℕ
     y = rev x
 
     no_x : count_all x L ≡ 0
