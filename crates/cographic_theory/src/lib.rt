@@ -1,0 +1,4 @@
+//! Cographic vectors, as pure mathematics.
+//!
+//! The crate has no code.
+#![tactic(auto)]

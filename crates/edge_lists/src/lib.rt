@@ -1,0 +1,4 @@
+//! Lists of numbered edges, as pure mathematics.
+//!
+//! The crate has no code.
+#![tactic(auto)]

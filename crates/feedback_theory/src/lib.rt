@@ -1,0 +1,4 @@
+//! Feedback vertex sets, as pure mathematics.
+//!
+//! The crate has no code.
+#![tactic(auto)]
