@@ -59,6 +59,16 @@ In_flat_map-from f (z ∷ xs) y h = go (In-append y (f z) (flat_map f xs) h) (In
     go (inl i) ih = (z, inl refl, i)
     go (inr i) ih = let r = ih i in (r.0, inr r.1, r.2)
 
+-- P of each member, or Q by one of them
+pub each_or : {X : Type 0} {P : X → Type 0} {Q : Type 0} (xs : List X) → ((x : X) → In x xs → P x ⊎ Q) → ((x : X) → In x xs → P x) ⊎ Q
+each_or [] h = inl (λ x i. absurd i)
+each_or {X} {P} {Q} (y ∷ xs) h = go (h y (inl refl)) (each_or xs (λ x i. h x (inr i)))
+  where
+    go : P y ⊎ Q → ((x : X) → In x xs → P x) ⊎ Q → ((x : X) → In x (y ∷ xs) → P x) ⊎ Q
+    go (inr q) r = inr q
+    go (inl p) (inr q) = inr q
+    go (inl p) (inl r) = inl (λ x i. elim i [ inl e ↦ subst P (sym e) p | inr j ↦ r x j ])
+
 -- the same by an index
 pub contains-In : {X : Type 0} (xs : List X) (x : X) → In x xs → Contains xs x
 contains-In [] x i = absurd i

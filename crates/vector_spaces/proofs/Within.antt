@@ -1,6 +1,6 @@
 -- Lists of vectors within the span of others.
 use Rattle.std.proofs.Common.{◌⊎◌, inl, inr, List, [], ◌∷◌, ◌++◌, refl, sym, subst}
-use Rattle.vector_spaces.proofs.Members.{In, In-append, In-append_left, In-append_right}
+use Rattle.vector_spaces.proofs.Members.{In, each_or, In-append, In-append_left, In-append_right}
 use Rattle.vector_spaces.proofs.Space.{Field, Space}
 use Rattle.vector_spaces.proofs.Span.{InSpan, span_member, span_more, span_through, decide_span}
 
@@ -52,25 +52,16 @@ module _ {K V : Type 0} {f : Field K} (s : Space f V) where
   pub within_right : (us vs ws : List V) → Within s us ws → Within s us (vs ++ ws)
   within_right us vs ws h = record { each = λ x i. right_in vs ws x (h.each x i) }
 
-  pub decide_within : (us vs : List V) → Dec (Within s us vs)
-  decide_within [] vs = yes (within_nil vs)
-  decide_within (u ∷ us) vs = go (decide_span f s vs u) (decide_within us vs)
-    where
-      go : Dec (InSpan s vs u) → Dec (Within s us vs) → Dec (Within s (u ∷ us) vs)
-      go (yes c) (yes h) = yes (within_cons u us vs c h)
-      go (no n) d = no (λ w. n (w.each u (inl refl)))
-      go d (no n) = no (λ w. n (record { each = λ v i. w.each v (inr i) }))
-
   -- all of vs, or the first outside the span of ws
   pub first_outside : (vs ws : List V) → Within s vs ws ⊎ ((a : V) × In a vs × ¬ (InSpan s ws a))
-  first_outside [] ws = inl (within_nil ws)
-  first_outside (v ∷ vs) ws = go (decide_span f s ws v) (first_outside vs ws)
-    where
-      go : Dec (InSpan s ws v) → Within s vs ws ⊎ ((a : V) × In a vs × ¬ (InSpan s ws a)) →
-          Within s (v ∷ vs) ws ⊎ ((a : V) × In a (v ∷ vs) × ¬ (InSpan s ws a))
-      go (no n) r = inr (v, inl refl, n)
-      go (yes c) (inl h) = inl (within_cons v vs ws c h)
-      go (yes c) (inr h) = inr (h.0, inr h.1, h.2)
+  first_outside vs ws = elim (each_or vs (λ v i. elim (decide_span f s ws v) as (λ _. InSpan s ws v ⊎
+      ((a : V) × In a vs × ¬ (InSpan s ws a))) [ yes c ↦ inl c | no n ↦ inr (v, i, n) ])) [
+        | inl h ↦ inl (record { each = h })
+        | inr r ↦ inr r
+      ]
+
+  pub decide_within : (us vs : List V) → Dec (Within s us vs)
+  decide_within us vs = elim (first_outside us vs) [ inl h ↦ yes h | inr r ↦ no (λ w. r.2 (w.each r.0 r.1)) ]
 
 -- places a list within the span of an append that holds it
 pub ruleset placing = (
