@@ -58,7 +58,7 @@ module _ {I : Type 0} (block : I → List ℕ) where
   front_size A B C = omega (arith, length-append A (B ++ C), length-append B C, length-append B (A ++ C), length-append A C)
 
   -- a block may be taken to the front
-  pub block_to_front : (F : List I) (i : I) (G : List I) → GrownForest (all_links block (F ++ i ∷ G)) →
+  block_to_front : (F : List I) (i : I) (G : List I) → GrownForest (all_links block (F ++ i ∷ G)) →
       GrownForest (links (block i) ++ all_links block (F ++ G))
   block_to_front F i G f = subst (λ z. GrownForest (links (block i) ++ z)) (sym (all_links-append block F G))
       (forest_shuffle (all_links block F ++ (links (block i) ++ all_links block G))

@@ -33,10 +33,6 @@ module _ (ends : ℕ → ℕ × ℕ) where
   simple_path_exists F d s t c = simple_chain_exists (edge_block ends) F d s t
       (subst (λ z. Connected z s t) (sym (all_links-edges ends F)) c)
 
-  pub path_connected : (F : List ℕ) (s t : ℕ) → SimpleChain (edge_block ends) F s t → Connected (map ends F) s t
-  path_connected F s t x = subst (λ z. Connected z s t) (all_links-edges ends F)
-      (chain_connected (edge_block ends) F s x.ks t x.inside x.chain)
-
   pub no_edge_cycle_of_forest : (F : List ℕ) → GrownForest (map ends F) → (p : ℕ) (ks : List (ℕ × ℕ)) →
       ¬ (IsBlockCycle (edge_block ends) F p ks)
   no_edge_cycle_of_forest F f = no_cycle_of_forest (edge_block ends) F (subst GrownForest (sym (all_links-edges ends F)) f)
@@ -105,6 +101,3 @@ module _ (ends : ℕ → ℕ × ℕ) where
       go (yes a) ih = ap₂ (λ x y. x ∷ y) (ap₂ (λ x y. (x, y)) a (next a))
           (ih (subst (λ z. Chain (edge_block ends) z ms q) (sym (next a)) b.2)
           (subst (λ z. IsDistinct (z ∷ chain_vertices ms)) (sym (next a)) e.1))
-
-  pub forest_path_unique : (F : List ℕ) → GrownForest (map ends F) → (s t : ℕ) (x y : SimpleChain (edge_block ends) F s t) → x.ks ≡ y.ks
-  forest_path_unique F f s t x y = path_unique F f s t x.ks y.ks x.inside y.inside x.chain y.chain x.corners y.corners
