@@ -1,8 +1,9 @@
--- Families of paths: in graphs with more edges, with other classes, and as lists of vertices.
+-- Families of paths: in graphs with more edges, with other classes, in another order, and as lists of vertices.
 use Rattle.std.proofs.Common.{◌≡◌, ℕ, inl, inr, List, [], ◌∷◌, ◌++◌, map, refl, sym, ap, ap₂, ◌∙◌, subst, Bool, true}
 use Rattle.std.specs.List.{flat_map}
 use Rattle.vector_spaces.proofs.Members.{In, In_map-from}
 use Rattle.vector_spaces.proofs.Distinct.{IsDistinct}
+use Rattle.graph_theory.proofs.Pieces.{some_pieces}
 use Rattle.graph_theory.specs.Paths.{IsLinked}
 use Rattle.path_theory.specs.Families.{path_vertices, IsTerminalPath, IsFamily, IsPathFamily}
 
@@ -25,6 +26,15 @@ family_more E E' terminal class other Ps h k g = record { paths = λ p i. path p
       differ = λ e. q.differ
           (k _ _ q.starts q.ends e);
     }
+
+-- different paths of a family are a family, in any order
+pub family_by_members : {C : Type 0} (E : List (ℕ × ℕ)) (terminal : ℕ → Bool) (class : ℕ → C) (Ps Rs : List (ℕ × List ℕ)) →
+    IsFamily E terminal class Ps → IsDistinct Rs → ((p : ℕ × List ℕ) → In p Rs → In p Ps) → IsFamily E terminal class Rs
+family_by_members E terminal class Ps Rs h d k = record {
+  paths = λ p i. h.paths p
+      (k p i);
+  distinct = some_pieces path_vertices Ps Rs h.distinct d k;
+}
 
 pub flat_vertices : (Ps : List (ℕ × List ℕ)) → flat_map (λ vs. vs) (map path_vertices Ps) ≡ flat_map path_vertices Ps
 flat_vertices [] = refl
