@@ -3,11 +3,10 @@ use Rattle.graph_theory.specs.Labels.{label}
 use Rattle.std.proofs.Common.{◌≡◌, ℕ, ◌+◌, ◌*◌, List, [], ◌∷◌, cond, ◌≤◌, length, ◌%◌, ◌≢◌, refl, sym, ap, ◌∙◌, arith, eq-eqb, ne_eqb, subst, map, nat_eq}
 use Rattle.std.proofs.lemmas.List.{length-map}
 use Rattle.std.proofs.Math.Decide.{ℕ_discrete}
-use Rattle.edge_lists.specs.Connections.{AreForest, Joined}
-use Rattle.edge_lists.specs.EdgeWalks.{EdgeWalk}
+use Rattle.edge_lists.specs.Connections.{Joined}
 use Rattle.edge_lists.specs.Occurrences.{count}
 use Rattle.edge_lists.proofs.Occurrences.{count-append, count-head, count-map, count-nil, count-other, length-cons, length-nil}
-use Rattle.cographic_theory.proofs.Cuts.{EvenOnCycles, apart_dependent, connected_independent, total, total-even}
+use Rattle.cographic_theory.proofs.Cuts.{EvenOnCycles, TreePaths, apart_dependent, connected_independent, total, total-even}
 
 -- the coefficient of the edge x in a list of edges with coefficients
 unfoldable pub coefficient : List ℕ → List ℕ → ℕ → ℕ
@@ -108,25 +107,22 @@ coefficient-map f (s ∷ S) D x i = go (ℕ_discrete s x) (λ j. coefficient-map
     ))
     go (no n) ih = coefficient-other s S (f s) (map f S) x n ∙ ih (omega (arith, i, count-other x s S n))
 
-module _ (ends : ℕ → ℕ × ℕ) (E T : List ℕ) (F : AreForest ends T) (path : ℕ → List ℕ)
-    (within : (g c : ℕ) → 1 ≤ count g E → count g T ≡ 0 → 1 ≤ count c (path g) → 1 ≤ count c T)
-    (leads : (g : ℕ) → 1 ≤ count g E → count g T ≡ 0 → EdgeWalk ends (ends g).0 (path g) (ends g).1)
-    (sub_T : (e : ℕ) → 1 ≤ count e T → 1 ≤ count e E)
+module _ (ends : ℕ → ℕ × ℕ) (E T : List ℕ) (P : TreePaths ends E T)
     (S K : List ℕ) (D : (e : ℕ) → count e S ≤ 1) (sub_K : (e : ℕ) → 1 ≤ count e K → 1 ≤ count e E) (sub_S : (e : ℕ) → 1 ≤ count e S
     → 1 ≤ count e E)
     (apart : (e : ℕ) → 1 ≤ count e K → count e S ≡ 0) (cover : (e : ℕ) → 1 ≤ count e E → count e K ≡ 0 → 1 ≤ count e S) where
   -- the coefficients cs of the edges of S combine their vectors to zero: the entry of the edge g outside the tree is even
   abbrev pub Vanishes : List ℕ → Type 0
-  Vanishes cs = (g : ℕ) → 1 ≤ count g E → count g T ≡ 0 → weight (g ∷ path g) S cs % 2 ≡ 0
+  Vanishes cs = (g : ℕ) → 1 ≤ count g E → count g T ≡ 0 → weight (g ∷ P.path g) S cs % 2 ≡ 0
 
-  even_of : (cs : List ℕ) → Vanishes cs → EvenOnCycles ends E T F path within leads (coefficient S cs)
-  even_of cs h g i n = let k = h g i n in omega (arith, k, weight-cons g (path g) S cs, weight-total (path g) S cs)
+  even_of : (cs : List ℕ) → Vanishes cs → EvenOnCycles ends E T P (coefficient S cs)
+  even_of cs h g i n = let k = h g i n in omega (arith, k, weight-cons g (P.path g) S cs, weight-total (P.path g) S cs)
 
   -- where the edges outside S join the ends of every edge, only even coefficients vanish
   pub represent_independent : ((e : ℕ) → 1 ≤ count e E → Joined ends K (ends e).0 (ends e).1) → (cs : List ℕ) → length cs ≡ length S
       → Vanishes cs → (c : ℕ)
       → 1 ≤ count c cs → c % 2 ≡ 0
-  represent_independent all cs l h = items_even S cs D l (λ e i. connected_independent ends E T F path within leads K sub_K all
+  represent_independent all cs l h = items_even S cs D l (λ e i. connected_independent ends E T P K sub_K all
       (coefficient S cs) (even_of cs h)
       (λ e j. ap (λ t. t % 2) (coefficient-none S cs e (apart e j))) e (sub_S e i))
 
@@ -138,9 +134,9 @@ module _ (ends : ℕ → ℕ × ℕ) (E T : List ℕ) (F : AreForest ends T) (pa
     where
       go : Dec (label (map ends K) u ≡ label (map ends K) v) → Joined ends K u v
       go (yes e) = e
-      go (no n) = absurd (clash (apart_dependent ends E T F path within leads K u v n j))
+      go (no n) = absurd (clash (apart_dependent ends E T P K u v n j))
         where
-          clash : (f : ℕ → ℕ) × EvenOnCycles ends E T F path within leads f × ((e : ℕ) → 1 ≤ count e K → f e % 2 ≡ 0) × ¬
+          clash : (f : ℕ → ℕ) × EvenOnCycles ends E T P f × ((e : ℕ) → 1 ≤ count e K → f e % 2 ≡ 0) × ¬
               ((e : ℕ) → 1 ≤ count e E → f e % 2 ≡ 0)
               → ⊥
           clash (f, even, on_K, not_all) = not_all each
@@ -159,10 +155,10 @@ module _ (ends : ℕ → ℕ × ℕ) (E T : List ℕ) (F : AreForest ends T) (pa
               vanish g i m = omega (
                 arith,
                 even g i m,
-                weight-cons g (path g) S cs,
-                weight-total (path g) S cs,
+                weight-cons g (P.path g) S cs,
+                weight-total (P.path g) S cs,
                 near g i,
-                total-even ends f (coefficient S cs) (path g) (λ e k. near e (sub_T e (within g e i m k))),
+                total-even ends f (coefficient S cs) (P.path g) (λ e k. near e (P.sub_T e (P.within g e i m k))),
               )
 
               each : (e : ℕ) → 1 ≤ count e E → f e % 2 ≡ 0

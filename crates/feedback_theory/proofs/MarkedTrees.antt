@@ -140,10 +140,9 @@ module _ (ends : ℕ → ℕ × ℕ) (V : ℕ) (H : List ℕ) (graph : IsGraph e
   tree_connected : IsConnected ends V tree
   tree_connected u v l m = joined_from ends H tree each_joined u v (C u v l m)
 
-  tree_in : (c : ℕ) → 1 ≤ count c tree → 1 ≤ count c H
-  tree_in c i = omega (
+  parts_inside : (c : ℕ) → count c ext.R + (count c (seconds D) + count c tree) ≤ count c H
+  parts_inside c = omega (
     arith,
-    i,
     count-append c ext.T A,
     count-append c (firsts D) rest_out,
     ext.all c,
@@ -156,7 +155,7 @@ module _ (ends : ℕ → ℕ × ℕ) (V : ℕ) (H : List ℕ) (graph : IsGraph e
   left_number : length ext.R + length D + V ≡ length H + one_component V
   left_number = omega (
     arith,
-    forest_components ends V tree ext.forest (λ e i. graph.below e (tree_in e i)),
+    forest_components ends V tree ext.forest (λ e i. graph.below e (omega (arith, i, parts_inside e))),
     component_number_connected ends V tree tree_connected,
     length-append ext.T A,
     length-append (firsts D) rest_out,
@@ -186,15 +185,7 @@ module _ (ends : ℕ → ℕ × ℕ) (V : ℕ) (H : List ℕ) (graph : IsGraph e
     tree = tree;
     outside_in = λ c. omega (arith, count-append c ext.T A, count-append c (firsts D) rest_out);
     firsts_in = λ c. omega (arith, count-append c ext.T A, count-append c (firsts D) rest_out);
-    inside = λ c. omega (
-      arith,
-      count-append c ext.T A,
-      count-append c (firsts D) rest_out,
-      ext.all c,
-      rest_and_used c,
-      count-append c rest used,
-      count-used c,
-    );
+    inside = parts_inside;
     connected = tree_connected;
     number = left_number;
   }

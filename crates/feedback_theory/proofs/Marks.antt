@@ -102,31 +102,28 @@ module _ (ends : ℕ → ℕ × ℕ) (H : List ℕ) (single : (e : ℕ) → coun
   pub vertex_in : (m : Mark) → In m D → 1 ≤ count m.x X
   vertex_in m i = count_of_in m.x X (In-map (λ (k : Mark). k.x) m D i)
 
-  pub first_out : (c : ℕ) → 1 ≤ count c (firsts D) → LeadsOut c
-  first_out c i = go (In_map-from (λ (k : Mark). k.p) c D (in_of_count c (firsts D) i))
+  -- the edges f m that lead from the vertices of the marks to the vertices g m
+  leads_out : (f g : Mark → ℕ) → ((m : Mark) → In m D → LeadsTo ends (f m) m.x (g m)) → ((m : Mark) → In m D → count (g m) X ≡ 0)
+      → ((m : Mark) → In m D → 1 ≤ count (f m) H) → (c : ℕ) → 1 ≤ count c (map f D) → LeadsOut c
+  leads_out f g to out inside c i = go (In_map-from f c D (in_of_count c (map f D) i))
     where
-      go : (m : Mark) × In m D × (c ≡ m.p) → LeadsOut c
-      go (m, j, e) = let t = M.two m j in record {
+      go : (m : Mark) × In m D × (c ≡ f m) → LeadsOut c
+      go (m, j, e) = record {
         x = m.x;
-        w = m.w;
-        to = subst (λ v. LeadsTo ends v m.x m.w) (sym e) t.p_to;
+        w = g m;
+        to = subst (λ v. LeadsTo ends v m.x (g m)) (sym e) (to m j);
         x_in = vertex_in m j;
-        w_out = t.w_out;
-        inside = subst (λ v. 1 ≤ count v H) (sym e) t.p_in;
+        w_out = out m j;
+        inside = subst (λ v. 1 ≤ count v H) (sym e) (inside m j);
       }
 
+  pub first_out : (c : ℕ) → 1 ≤ count c (firsts D) → LeadsOut c
+  first_out = leads_out (λ m. m.p) (λ m. m.w) (λ m i. let t = M.two m i in t.p_to) (λ m i. let t = M.two m i in t.w_out)
+      (λ m i. let t = M.two m i in t.p_in)
+
   pub second_out : (c : ℕ) → 1 ≤ count c (seconds D) → LeadsOut c
-  second_out c i = go (In_map-from (λ (k : Mark). k.q) c D (in_of_count c (seconds D) i))
-    where
-      go : (m : Mark) × In m D × (c ≡ m.q) → LeadsOut c
-      go (m, j, e) = let t = M.two m j in record {
-        x = m.x;
-        w = m.y;
-        to = subst (λ v. LeadsTo ends v m.x m.y) (sym e) t.q_to;
-        x_in = vertex_in m j;
-        w_out = t.y_out;
-        inside = subst (λ v. 1 ≤ count v H) (sym e) t.q_in;
-      }
+  second_out = leads_out (λ m. m.q) (λ m. m.y) (λ m i. let t = M.two m i in t.q_to) (λ m i. let t = M.two m i in t.y_out)
+      (λ m i. let t = M.two m i in t.q_in)
 
   -- the edges outside X, the first and the second edges of the marks are different
   pub apart : (c : ℕ) → count c rest_out + (count c (firsts D) + count c (seconds D)) ≤ 1

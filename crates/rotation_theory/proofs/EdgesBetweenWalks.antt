@@ -12,7 +12,7 @@ use Rattle.rotation_theory.proofs.Arcs.{arc-source, arcs-cons, arcs-target}
 use Rattle.rotation_theory.proofs.Corners.{corner_after}
 use Rattle.rotation_theory.proofs.Darts.{cut, cut_edge, edge_dart, edge_rev, rev_rev}
 use Rattle.rotation_theory.proofs.Deletion.{DartTaken, EdgeDarts, taken_count}
-use Rattle.rotation_theory.proofs.EdgeInsertion.{DartPut, insert_faces, insert_rotation, put_taken}
+use Rattle.rotation_theory.proofs.EdgeInsertion.{DartPut, EdgePut, insert_faces, insert_rotation, put_taken}
 use Rattle.rotation_theory.proofs.FaceWalks.{FaceWalks, walks_distinct}
 use Rattle.rotation_theory.proofs.Insertion.{CornerAfter, EdgeLifted, OnOneWalk, insert_merging}
 use Rattle.rotation_theory.proofs.SameCycles.{SameCycles, same_front, same_refl, same_turn, same_under, walks_same}
@@ -72,7 +72,7 @@ put_in ends x p L L1 P =
     )
 
 module _ (ends : ℕ → ℕ × ℕ) (V : ℕ) where
-  module _ (H : List ℕ) (e : ℕ) (free : count e H ≡ 0) (below : AreBelow V (ends e)) (L L1 L2 : List (List ℕ))
+  module _ (H : List ℕ) (e : ℕ) (free : count e H ≡ 0) (below : AreBelow V (ends e)) (L : List (List ℕ))
       (R : IsRotation ends V H L) where
     abbrev x : ℕ
     x = dart e
@@ -87,11 +87,11 @@ module _ (ends : ℕ → ℕ × ℕ) (V : ℕ) where
     no_y = R.held y ∙ ap (λ t. count t H) (edge_rev x ∙ edge_dart e) ∙ free
 
     -- between two walks
-    pub insert_between : (p q : ℕ) (P : DartPutAfter ends x p L L1) (Q : DartPutAfter ends y q L1 L2) → q ≢ x
+    pub insert_between : (L1 L2 : List (List ℕ)) (p q : ℕ) (P : DartPutAfter ends x p L L1) (Q : DartPutAfter ends y q L1 L2) → q ≢ x
         → (w1 w2 : List ℕ) (S : List (List ℕ))
         → FaceWalks rev L (w1 ∷ w2 ∷ S) → 1 ≤ count (rev p) w1 → 1 ≤ count (rev q) w2
         → (w : List ℕ) × FaceWalks rev L2 (w ∷ S)
-    insert_between p q P Q n w1 w2 S k i j =
+    insert_between L1 L2 p q P Q n w1 w2 S k i j =
         let (s1, l1) = turn_end (rev p) w1 i in
         let (s2, l2) = turn_end (rev q) w2 j in
         let k1 : FaceWalks rev L ((s1 ++ rev p ∷ []) ∷ w2 ∷ S) = walks_same rev L L _ _ (same_refl L) (l1 (w2 ∷ S)) k in
@@ -113,7 +113,8 @@ module _ (ends : ℕ → ℕ × ℕ) (V : ℕ) where
         t2 = put_taken ends y L1 L2 (put_of ends y q L1 L2 Q)
 
         N : IsRotation ends V (e ∷ H) L2
-        N = insert_rotation ends V H e free below L L1 L2 R (put_of ends x p L L1 P) (put_of ends y q L1 L2 Q)
+        N = insert_rotation ends V H e free below L R
+            (record { L1 = L1; L2 = L2; first = put_of ends x p L L1 P; second = put_of ends y q L1 L2 Q })
 
         D2 : AllDistinct L2
         D2 = rotation_distinct ends V (e ∷ H) L2 N
@@ -136,28 +137,28 @@ module _ (ends : ℕ → ℕ × ℕ) (V : ℕ) where
             (λ z. absurd (omega (arith, q_in, ap (λ t. count_all t L) z, no_y)))
 
     -- one face becomes two, one with each dart
-    pub insert_first : (P : DartPut ends x L L1) (Q : DartPut ends y L1 L2) → (w : List ℕ) → FaceWalks rev L (w ∷ [])
-        → (A : List ℕ) × (B : List ℕ) × FaceWalks rev L2 ((y ∷ A) ∷ (x ∷ B) ∷ [])
-    insert_first P Q w k = go lifted.outcome
+    pub insert_first : (B : EdgePut ends e L) → (w : List ℕ) → FaceWalks rev L (w ∷ [])
+        → (A : List ℕ) × (C : List ℕ) × FaceWalks rev B.L2 ((y ∷ A) ∷ (x ∷ C) ∷ [])
+    insert_first B w k = go lifted.outcome
       where
-        N : IsRotation ends V (e ∷ H) L2
-        N = insert_rotation ends V H e free below L L1 L2 R P Q
+        N : IsRotation ends V (e ∷ H) B.L2
+        N = insert_rotation ends V H e free below L R B
 
-        D2 : AllDistinct L2
-        D2 = rotation_distinct ends V (e ∷ H) L2 N
+        D2 : AllDistinct B.L2
+        D2 = rotation_distinct ends V (e ∷ H) B.L2 N
 
-        lifted : EdgeLifted rev (cut y) y x L2 (length (w ∷ []))
-        lifted = insert_faces ends V H e free below L L1 L2 R P Q (w ∷ []) k
+        lifted : EdgeLifted rev (cut y) y x B.L2 (length (w ∷ []))
+        lifted = insert_faces ends V H e free below L R B (w ∷ []) k
 
         E : EdgeDarts rev (cut y) y x
         E = subst (λ t. EdgeDarts rev (cut y) y t) (rev_rev x) (cut_edge y)
 
-        go : ((length lifted.W ≡ length (w ∷ []) + 1) × OnOneWalk (cut y) y x L2) ⊎ (length lifted.W + 1 ≡ length (w ∷ []))
-            → (A : List ℕ) × (B : List ℕ) × FaceWalks rev L2 ((y ∷ A) ∷ (x ∷ B) ∷ [])
+        go : ((length lifted.W ≡ length (w ∷ []) + 1) × OnOneWalk (cut y) y x B.L2) ⊎ (length lifted.W + 1 ≡ length (w ∷ []))
+            → (A : List ℕ) × (C : List ℕ) × FaceWalks rev B.L2 ((y ∷ A) ∷ (x ∷ C) ∷ [])
         go (inl (h, o)) =
-            let s : FaceWalks rev L2 ((y ∷ o.T) ∷ (x ∷ o.Q) ∷ o.S) = swap_split y x E.ne (cut y) rev (E.r_e ∙ sym E.c_f)
-            (E.r_f ∙ sym E.c_e) (λ c m n. sym (E.others c m n)) L2 o.Q o.T o.S D2 o.walks in
-            let u : length lifted.W ≡ length ((y ∷ o.T) ∷ (x ∷ o.Q) ∷ o.S) = walks_unique rev L2 lifted.W _ D2 lifted.walks s in
+            let s : FaceWalks rev B.L2 ((y ∷ o.T) ∷ (x ∷ o.Q) ∷ o.S) = swap_split y x E.ne (cut y) rev (E.r_e ∙ sym E.c_f)
+            (E.r_f ∙ sym E.c_e) (λ c m n. sym (E.others c m n)) B.L2 o.Q o.T o.S D2 o.walks in
+            let u : length lifted.W ≡ length ((y ∷ o.T) ∷ (x ∷ o.Q) ∷ o.S) = walks_unique rev B.L2 lifted.W _ D2 lifted.walks s in
             let z : length o.S ≡ 0 = omega (
               arith,
               u,
@@ -167,7 +168,7 @@ module _ (ends : ℕ → ℕ × ℕ) (V : ℕ) where
               length-cons (y ∷ o.T) ((x ∷ o.Q) ∷ o.S),
               length-cons (x ∷ o.Q) o.S,
             ) in
-            (o.T, o.Q, subst (λ t. FaceWalks rev L2 ((y ∷ o.T) ∷ (x ∷ o.Q) ∷ t)) (nil_of o.S z) s)
+            (o.T, o.Q, subst (λ t. FaceWalks rev B.L2 ((y ∷ o.T) ∷ (x ∷ o.Q) ∷ t)) (nil_of o.S z) s)
           where
             nil_of : (S : List (List ℕ)) → length S ≡ 0 → S ≡ []
             nil_of [] h = refl

@@ -11,13 +11,10 @@ use Rattle.rotation_theory.proofs.MaximumGenus.{maximum_of_most, most_of_maximum
 module _ (ends : ℕ → ℕ × ℕ) (n : ℕ) (E : List ℕ) (graph : IsGraph ends n E) (pair : ℕ → ℕ × ℕ) (m : ℕ) (Q : ListsPairs ends E pair m)
     (T : List ℕ) {K V : Type 0}
     (f : Field K) (s : Space f V) (row : ℕ → V) (G : IsCographic ends E T f s row) (C : IsConnected ends n E) where
-  abbrev IsLargest : List ℕ → Type 0
-  IsLargest = IsLargestSet ends n E graph pair m Q T f s row G C
-
   -- the largest size is the maximum genus
-  pub largest_is_maximum_genus : (M : List ℕ) → IsLargest M → IsMaximumGenus ends n E (length M)
+  pub largest_is_maximum_genus : (M : List ℕ) → IsLargestSet s row pair m M → IsMaximumGenus ends n E (length M)
   largest_is_maximum_genus M L = maximum_of_most ends n E graph C (length M) (most_of_largest ends n E graph pair m Q T f s row G C M L)
 
   -- and the maximum genus is the size of a largest set
-  pub largest_of_maximum : (g : ℕ) → IsMaximumGenus ends n E g → (M : List ℕ) × IsLargest M × (length M ≡ g)
+  pub largest_of_maximum : (g : ℕ) → IsMaximumGenus ends n E g → (M : List ℕ) × IsLargestSet s row pair m M × (length M ≡ g)
   largest_of_maximum g I = largest_of_most ends n E graph pair m Q T f s row G C g (most_of_maximum ends n E graph C g I)
