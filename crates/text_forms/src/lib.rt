@@ -17,10 +17,10 @@ mod places;
 mod words;
 
 pub use laws::{
-    chains_are_causal, chains_read_in_order, lines_are_causal, lines_are_due, lines_are_used_up,
-    lines_give_what_is_spelled, lists_give_what_is_spelled, numerals_are_read,
+    chains_are_causal, chains_read_in_order, limits_are_refused, lines_are_causal, lines_are_due,
+    lines_are_used_up, lines_give_what_is_spelled, lists_give_what_is_spelled, numerals_are_read,
     places_fault_on_their_line, places_give_what_is_spelled, refusals_are_causal,
-    written_lines_are_read,
+    words_are_refused, written_lines_are_read,
 };
 pub use lines::{alone_line, counted_line, due_line, limited_line, read_end, version_line};
 pub use places::{entry_word, fixed_word, number_word, position_or_end, position_word};
