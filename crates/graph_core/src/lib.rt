@@ -1,0 +1,16 @@
+//! Graphs with named vertices: edges with two ends, loops and parallel edges among them, and classes of vertices.
+//!
+//! [`Graph`] is seen as its names, the ends of its edges and the classes of its vertices (`NamedGraph` in `specs/NamedGraphs.antt`).
+#![tactic(auto)]
+
+mod edge_list;
+mod edge_pairs;
+mod graph;
+mod vertex_list;
+mod vertex_lists;
+
+pub use edge_list::EdgeList;
+pub use edge_pairs::EdgePairs;
+pub use graph::Graph;
+pub use vertex_list::VertexList;
+pub use vertex_lists::VertexLists;
