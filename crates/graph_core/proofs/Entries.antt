@@ -73,6 +73,7 @@ named_more names ends classes name g n = record {
   within = λ k d l. let h = g.within k d l in let m = length_push names name in (omega arith, omega arith);
   classed = length_push classes None ∙ ap (λ n. n + 1) g.classed ∙ sym (length_push names name);
 }
+
 -- a graph with a vertex in a class
 pub classed_more : {names names' : List (List ℕ)} (ends : List (ℕ × ℕ)) {classes classes' : List (Option ℕ)} (i : ℕ) (k : Option ℕ) → names' ≡ names → classes' ≡ slice_set classes i k →
     IsNamedGraph (record { names = names; ends = ends; classes = classes }) → IsNamedGraph (record { names = names'; ends = ends; classes = classes' })

@@ -1,1 +1,5 @@
 mod Entries
+mod Gathered
+mod Marks
+mod TriangleLists
+mod PairLists

@@ -1,1 +1,4 @@
 pub mod NamedGraphs
+pub mod Orders
+pub mod Adjacency
+pub mod Gathered

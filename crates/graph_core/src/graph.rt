@@ -24,16 +24,16 @@ impl Model for Graph {
     ghost Value = { NamedGraph };
 
     ghost view = { λ g. record {
-            names = map (λ v. v.0.items) g.vertices.entries;
-            ends = g.ends.items;
-            classes = map (λ v. v.1) g.vertices.entries;
-        } };
+      names = map (λ v. v.0.items) g.vertices.entries;
+      ends = g.ends.items;
+      classes = map (λ v. v.1) g.vertices.entries;
+    } };
 
     ghost invariant = { λ g. IsNamedGraph (record {
-            names = map (λ v. v.0.items) g.vertices.entries;
-            ends = g.ends.items;
-            classes = map (λ v. v.1) g.vertices.entries;
-        }) };
+      names = map (λ v. v.0.items) g.vertices.entries;
+      ends = g.ends.items;
+      classes = map (λ v. v.1) g.vertices.entries;
+    }) };
 }
 
 impl Graph {

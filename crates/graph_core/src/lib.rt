@@ -3,9 +3,12 @@
 //! [`Graph`] is seen as its names, the ends of its edges and the classes of its vertices (`NamedGraph` in `specs/NamedGraphs.antt`).
 #![tactic(auto)]
 
+mod adjacent_pairs;
 mod edge_list;
 mod edge_pairs;
 mod graph;
+mod neighbours;
+mod triangles;
 mod vertex_list;
 mod vertex_lists;
 

@@ -1,0 +1,60 @@
+//! The pairs of edges with a common end.
+
+ghost use Rattle.std.specs.Prelude.{◌≡◌, ◌<◌, ℕ, ◌↔◌, [], ◌∷◌, ◌++◌, IfOk, OnOk, length};
+ghost use Rattle.std.specs.List.{Contains, AllPairs};
+ghost use Rattle.graph_core.specs.NamedGraphs.{ends_of};
+ghost use Rattle.graph_core.specs.Orders.{IsPairBefore};
+ghost use Rattle.graph_core.specs.Adjacency.{HaveCommonEnd};
+ghost use Rattle.graph_core.specs.Gathered.{pair_by, pairs_at, meets};
+
+use crate::{EdgePairs, Graph};
+use std::alloc::{AllocError, Global};
+
+impl Graph {
+    /// All pairs of different edges with a common end, the smaller number first, in lexicographic order.
+    pub fn adjacent_pairs(&self, alloc: Global) -> Result<EdgePairs, AllocError>
+        ensures members { IfOk result (λ found. (p : ℕ × ℕ) → Contains found p ↔ ((p.0 < p.1) × (p.1 < length self.now.ends) × HaveCommonEnd (ends_of self.now p.0) (ends_of self.now p.1))) }
+        ensures order { IfOk result (λ found. AllPairs IsPairBefore found) }
+    {
+        let mut found = EdgePairs::new(alloc);
+        for first in 0..self.edges() {
+            push_pairs_at(self, first, &mut found)?;
+        }
+        Ok(found)
+    }
+}
+
+/// Puts the pairs of the edge with later edges last.
+fn push_pairs_at(graph: &Graph, first: usize, found: &mut EdgePairs) -> Result<(), AllocError>
+    requires { first < length graph.now.ends }
+    ensures { OnOk result (found.new ≡ found.old ++ pairs_at (ends_of graph.now) (length graph.now.ends) first) }
+{
+    for second in 0..graph.edges() {
+        push_pair(graph, first, second, found)?;
+    }
+    Ok(())
+}
+
+/// Puts the pair of two edges last, where the second is the later one and they have a common end.
+fn push_pair(
+    graph: &Graph,
+    first: usize,
+    second: usize,
+    found: &mut EdgePairs,
+) -> Result<(), AllocError>
+    requires first_edge { first < length graph.now.ends }
+    requires second_edge { second < length graph.now.ends }
+    ensures { OnOk result (found.new ≡ found.old ++ pair_by (ends_of graph.now) first second) }
+{
+    if first < second && meet(graph.ends(first), graph.ends(second)) {
+        found.push(first, second)?;
+    }
+    Ok(())
+}
+
+/// Whether two edges have a common end.
+fn meet(first: (usize, usize), second: (usize, usize)) -> bool
+    ensures { result ≡ meets first second }
+{
+    first.0 == second.0 || first.0 == second.1 || first.1 == second.0 || first.1 == second.1
+}
