@@ -3,3 +3,5 @@ mod Gathered
 mod Marks
 mod TriangleLists
 mod PairLists
+mod LabelLists
+mod GreedyForests

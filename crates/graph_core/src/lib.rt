@@ -4,6 +4,7 @@
 #![tactic(auto)]
 
 mod adjacent_pairs;
+mod components;
 mod edge_list;
 mod edge_pairs;
 mod graph;

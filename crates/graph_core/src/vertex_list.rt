@@ -29,6 +29,13 @@ impl VertexList {
         }
     }
 
+    /// The list of these.
+    pub(crate) fn of(vertices: Vec<usize>) -> VertexList
+        ensures { result ≡ vertices.items }
+    {
+        VertexList { vertices }
+    }
+
     /// Puts a vertex last. After want of memory the list is unchanged.
     pub fn push(&mut self, item: usize) -> Result<(), AllocError>
         ensures ok { OnOk result (self.new ≡ self.old ++ item ∷ []) }

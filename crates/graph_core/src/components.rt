@@ -1,0 +1,92 @@
+//! Components, and the spanning forest that is found edge by edge.
+
+ghost use Rattle.std.specs.Prelude.{◌≡◌, ◌≢◌, ◌<◌, ℕ, ◌↔◌, [], ◌∷◌, ◌++◌, IfOk, OnOk, IsTrue, map, length, slice_index, nat_eq, if◌then◌else◌};
+ghost use Rattle.graph_theory.specs.Labels.{merged};
+ghost use Rattle.graph_theory.specs.Walks.{Walk, IsLeastConnected, IsForest};
+ghost use Rattle.graph_core.specs.NamedGraphs.{ends_of};
+ghost use Rattle.graph_core.specs.Forests.{IsGreedyForest, edges_at, labels};
+
+use crate::{EdgeList, Graph, VertexList};
+use std::alloc::{AllocError, Global};
+
+impl Graph {
+    /// For each vertex the least vertex that is connected with it.
+    pub fn components(&self, alloc: Global) -> Result<VertexList, AllocError>
+        ensures count { IfOk result (λ least. length least ≡ length self.now.names) }
+        ensures least { IfOk result (λ least. (v : ℕ) → v < length self.now.names → IsLeastConnected self.now.ends v (slice_index least v)) }
+    {
+        let mut labels = own_labels(alloc, self.vertices())?;
+        for edge in 0..self.edges() {
+            let (first, second) = self.ends(edge);
+            join(&mut labels, first, second);
+        }
+        Ok(VertexList::of(labels))
+    }
+
+    /// The edges whose ends are not connected by those kept before, in order: a forest that connects what the edges connect.
+    pub fn spanning_forest(&self, alloc: Global) -> Result<EdgeList, AllocError>
+        ensures greedy { IfOk result (λ kept. IsGreedyForest self.now kept) }
+        ensures forest { IfOk result (λ kept. IsForest (edges_at self.now kept)) }
+        ensures spanning { IfOk result (λ kept. (p q : ℕ) → Walk self.now.ends p q → Walk (edges_at self.now kept) p q) }
+    {
+        let mut labels = own_labels(alloc, self.vertices())?;
+        let mut kept = EdgeList::new(alloc);
+        for edge in 0..self.edges() {
+            keep(self, edge, &mut labels, &mut kept)?;
+        }
+        Ok(kept)
+    }
+}
+
+/// Keeps the edge where the labels of its ends differ, and joins these.
+fn keep(
+    graph: &Graph,
+    edge: usize,
+    labels: &mut Vec<usize>,
+    kept: &mut EdgeList,
+) -> Result<(), AllocError>
+    requires edge { edge < length graph.now.ends }
+    requires count { length labels.old.items ≡ length graph.now.names }
+    ensures joined { let e = ends_of graph.now edge in OnOk result (labels.new.items ≡ map (merged (slice_index labels.old.items e.0) (slice_index labels.old.items e.1)) labels.old.items) }
+    ensures kept { let e = ends_of graph.now edge in OnOk result (kept.new ≡ kept.old ++ (if nat_eq (slice_index labels.old.items e.0) (slice_index labels.old.items e.1) then [] else edge ∷ [])) }
+{
+    let (first, second) = graph.ends(edge);
+    if join(labels, first, second) {
+        kept.push(edge)?;
+    }
+    Ok(())
+}
+
+/// Each vertex is its own label.
+fn own_labels(alloc: Global, vertices: usize) -> Result<Vec<usize>, AllocError>
+    ensures { IfOk result (λ list. list.items ≡ labels [] vertices) }
+{
+    let mut own = Vec::with_capacity(alloc, vertices)?;
+    for vertex in 0..vertices {
+        own.push(vertex)?;
+    }
+    Ok(own)
+}
+
+/// Joins the labels of two vertices to the smaller one, and tells whether they were different.
+fn join(labels: &mut Vec<usize>, first: usize, second: usize) -> bool
+    requires first_vertex { first < length labels.old.items }
+    requires second_vertex { second < length labels.old.items }
+    ensures joined { labels.new.items ≡ map (merged (slice_index labels.old.items first) (slice_index labels.old.items second)) labels.old.items }
+    ensures differ { IsTrue result ↔ (slice_index labels.old.items first ≢ slice_index labels.old.items second) }
+{
+    let (a, b) = (labels[first], labels[second]);
+    replace(labels, a.max(b), a.min(b));
+    a != b
+}
+
+/// Writes the second number for the first.
+fn replace(labels: &mut Vec<usize>, from: usize, to: usize)
+    ensures { labels.new.items ≡ map (λ label. if nat_eq label from then to else label) labels.old.items }
+{
+    for label in labels.iter_mut() {
+        if *label == from {
+            *label = to;
+        }
+    }
+}
