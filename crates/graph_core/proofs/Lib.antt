@@ -5,3 +5,4 @@ mod TriangleLists
 mod PairLists
 mod LabelLists
 mod GreedyForests
+mod Searches

@@ -4,3 +4,4 @@ pub mod Adjacency
 pub mod Gathered
 pub mod Forests
 pub mod Paths
+pub mod Ways

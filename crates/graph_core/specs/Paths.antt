@@ -1,6 +1,7 @@
 -- Paths by numbered edges.
-use Rattle.std.specs.Prelude.{◌≡◌, ◌≢◌, ℕ, ◌⊎◌, List, [], ◌∷◌, All}
-use Rattle.std.specs.List.{AllPairs, Contains}
+use Rattle.std.specs.Prelude.{◌≡◌, ℕ, ◌⊎◌, List, [], ◌∷◌, All}
+use Rattle.std.specs.List.{Contains}
+use Rattle.vector_spaces.proofs.Distinct.{IsDistinct}
 
 -- from p along the edges es to q, by the vertices vs, one behind each edge
 abbrev pub Leads : (ℕ → ℕ × ℕ) → ℕ → List ℕ → List ℕ → ℕ → Type 0
@@ -14,4 +15,4 @@ pub record IsPath (ends : ℕ → ℕ × ℕ) (F : List ℕ) (p : ℕ) (es : Lis
   pub inside : All (Contains F) es
   pub vertices : List ℕ
   pub leads : Leads ends p es vertices q
-  pub different : AllPairs (λ x y. x ≢ y) (p ∷ vertices)
+  pub different : IsDistinct (p ∷ vertices)

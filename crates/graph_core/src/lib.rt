@@ -12,6 +12,7 @@ mod neighbours;
 mod triangles;
 mod vertex_list;
 mod vertex_lists;
+mod ways;
 
 pub use edge_list::EdgeList;
 pub use edge_pairs::EdgePairs;
