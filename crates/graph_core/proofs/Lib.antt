@@ -6,3 +6,4 @@ mod PairLists
 mod LabelLists
 mod GreedyForests
 mod Searches
+mod ForestPaths

@@ -9,6 +9,7 @@ mod edge_list;
 mod edge_pairs;
 mod graph;
 mod neighbours;
+mod path;
 mod triangles;
 mod vertex_list;
 mod vertex_lists;
