@@ -1,8 +1,8 @@
 -- The entries of a map from names to classes: their names, found and put in.
-use Rattle.std.proofs.Common.{◌≡◌, ℕ, zero, suc, ◌<◌, List, [], ◌∷◌, ◌++◌, Option, None, Some, Bool, true, false, map, length, get_or, slice_get, ◌+◌, inl, inr, cond, is_some, refl, sym, ap, subst, ◌∙◌, arith, Contains}
+use Rattle.std.proofs.Common.{◌≡◌, ℕ, zero, suc, ◌<◌, List, [], ◌∷◌, ◌++◌, Option, None, Some, Bool, true, false, map, length, get_or, slice_get, ◌+◌, inl, inr, cond, is_some, refl, sym, ap, subst, ◌∙◌, arith}
 use Rattle.std.specs.Prelude.{slice_set, ◌≢◌, nat_eq, position}
 use Rattle.std.specs.Map.{keys_of, lookup}
-use Rattle.std.proofs.lemmas.Option.{none-some, slice_get-get_or, slice_get_within, get_or_from_slice_get}
+use Rattle.std.proofs.lemmas.Option.{none-some, slice_get-get_or}
 use Rattle.std.proofs.lemmas.List.{length-map, length-set, length_push, get_or-map, map-append}
 use Rattle.std.proofs.lemmas.List.Quantifiers.{position-Some, all_pairs_push}
 use Rattle.std.specs.Cmp.Lexicographic.{pointwise, same_text, other_text}
@@ -43,27 +43,20 @@ module _ {K V : Type 0} (f : K → List ℕ) where
       go false t (inl q) ih = other_text name (f e.0) (sym t) q
       go false t (inr j) ih = ih (ap (λ c. is_some (cond c (Some e.1) (lookup (λ k. pointwise nat_eq name (f k)) es))) (sym t) ∙ h) j
 
-  -- a name that is found is one of the names
-  pub name_there : (name : List ℕ) (es : List (K × V)) (i : ℕ) → position (λ k. pointwise nat_eq name (f k)) (keys_of es) ≡ Some i → Contains (map (λ (e : K × V). f e.0) es) name
-  name_there name es i h =
-      let names = map (λ (e : K × V). f e.0) es in
-      let at = name_found name es i h in
-      let within : i < length names = slice_get_within names i name at in
-      (i, within, get_or_from_slice_get names i name name at)
+  -- a name that is none of the names isn't found
+  pub lookup_none : (name : List ℕ) (es : List (K × V)) → ¬ (In name (map (λ (e : K × V). f e.0) es)) → lookup (λ k. pointwise nat_eq name (f k)) es ≡ None
+  lookup_none name [] n = refl
+  lookup_none name (e ∷ es) n = go (pointwise nat_eq name (f e.0)) refl (lookup_none name es (λ i. n (inr i)))
+    where
+      go : (b : Bool) → pointwise nat_eq name (f e.0) ≡ b → lookup (λ k. pointwise nat_eq name (f k)) es ≡ None → cond b (Some e.1) (lookup (λ k. pointwise nat_eq name (f k)) es) ≡ None
+      go true t h = absurd (n (inl (same_text name (f e.0) (sym t))))
+      go false t h = h
 
   pub names-more : (es : List (K × V)) (k : K) (v : V) → map (λ (e : K × V). f e.0) (es ++ (k, v) ∷ []) ≡ map (λ (e : K × V). f e.0) es ++ f k ∷ []
   names-more es k v = map-append (λ (e : K × V). f e.0) es ((k, v) ∷ [])
 
   pub classes-more : (es : List (K × V)) (k : K) (v : V) → map (λ (e : K × V). e.1) (es ++ (k, v) ∷ []) ≡ map (λ (e : K × V). e.1) es ++ v ∷ []
   classes-more es k v = map-append (λ (e : K × V). e.1) es ((k, v) ∷ [])
-
-pub slice_get-at : {X : Type 0} (xs : List X) (x : X) → slice_get (xs ++ x ∷ []) (length xs) ≡ Some x
-slice_get-at [] x = refl
-slice_get-at (y ∷ xs) x = slice_get-at xs x
-
-pub none_of : {X : Type 0} (o : Option X) → is_some o ≡ false → o ≡ None
-none_of None h = refl
-none_of (Some x) h = absurd (true≢false h)
 
 -- a graph with one more vertex, of a new name
 pub named_more : (names : List (List ℕ)) (ends : List (ℕ × ℕ)) (classes : List (Option ℕ)) (name : List ℕ) → IsNamedGraph (record { names = names; ends = ends; classes = classes }) → ¬ (In name names) →

@@ -1,6 +1,6 @@
 //! A graph: vertices with names and classes, and edges.
 
-ghost use Rattle.std.specs.Prelude.{◌≡◌, ◌<◌, ◌^◌, [], ◌∷◌, ◌++◌, None, Some, IfOk, OnOk, OnErr, length, slice_get, slice_set, slice_index_or};
+ghost use Rattle.std.specs.Prelude.{◌≡◌, ◌<◌, ◌≤◌, ◌^◌, [], ◌∷◌, ◌++◌, None, Some, IfSome, IfNone, IfOk, OnOk, OnErr, length, slice_get, slice_set, slice_index_or};
 ghost use Rattle.std.specs.List.{Contains};
 ghost use Rattle.graph_core.specs.NamedGraphs.{IsNamedGraph, ends_of};
 
@@ -48,23 +48,42 @@ impl Graph {
         }
     }
 
-    /// The number of the vertex with the name, which is put last where it is new, without a class. After want of memory the graph is
-    /// unchanged.
+    /// The number of the vertex with the name, which is put last where it is new, without a class. Want of memory comes only
+    /// for a new name, and leaves the graph unchanged.
     pub fn vertex(&mut self, name: &[u8]) -> Result<usize, AllocError>
         ensures named { IfOk result (λ v. slice_get self.new.names v ≡ Some name.now) }
+        ensures within { IfOk result (λ v. v < length self.new.names) }
         ensures known { Contains self.old.names name.now → self.new ≡ self.old }
         ensures added { ¬ (Contains self.old.names name.now) → OnOk result (self.new ≡ record self.old { names = self.old.names ++ name.now ∷ []; classes = self.old.classes ++ None ∷ [] }) }
+        ensures more { length self.old.names ≤ length self.new.names }
+        ensures err { OnErr result (self.new ≡ self.old) }
+        ensures absent { OnErr result (¬ (Contains self.old.names name.now)) }
+    {
+        match self.find(name) {
+            Some(number) => Ok(number),
+            None => self.add(name),
+        }
+    }
+
+    /// The number of the vertex with the name, None where there is none.
+    fn find(&self, name: &[u8]) -> Option<usize>
+        ensures named { IfSome result (λ v. slice_get self.now.names v ≡ Some name.now) }
+        ensures missing { IfNone result (¬ (Contains self.now.names name.now)) }
+    {
+        self.vertices.get_index_of(name)
+    }
+
+    /// Puts a vertex with a new name last, and gives its number. After want of memory the graph is unchanged.
+    fn add(&mut self, name: &[u8]) -> Result<usize, AllocError>
+        requires { ¬ (Contains self.old.names name.now) }
+        ensures last { IfOk result (λ v. v ≡ length self.old.names) }
+        ensures added { OnOk result (self.new ≡ record self.old { names = self.old.names ++ name.now ∷ []; classes = self.old.classes ++ None ∷ [] }) }
         ensures err { OnErr result (self.new ≡ self.old) }
     {
-        match self.vertices.get_index_of(name) {
-            Some(number) => Ok(number),
-            None => {
-                let number = self.vertices.len();
-                let name = Vec::from_slice(self.alloc, name)?;
-                self.vertices.insert(name, None)?;
-                Ok(number)
-            }
-        }
+        let number = self.vertices.len();
+        let name = Vec::from_slice(self.alloc, name)?;
+        self.vertices.insert(name, None)?;
+        Ok(number)
     }
 
     /// Puts an edge last. After want of memory the graph is unchanged.
