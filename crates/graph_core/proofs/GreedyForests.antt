@@ -28,7 +28,7 @@ module _ (ends : ℕ → ℕ × ℕ) where
     | inr s ↦ elim (In-append e (greedy_edges ends i) (i ∷ []) (subst (In e) s.1 h)) [ inl j ↦ inl j | inr j ↦ elim j [ inl q ↦ inr (q, s.0) | inr n ↦ absurd n ] ]
   ]
 
-  greedy_below : (i e : ℕ) → In e (greedy_edges ends i) → e < i
+  pub greedy_below : (i e : ℕ) → In e (greedy_edges ends i) → e < i
   greedy_below zero e h = absurd (subst (In e) (greedy-nil ends) h)
   greedy_below (suc i) e h = elim (in_greedy i e h) [ inl j ↦ let l = greedy_below i e j in omega arith | inr q ↦ let p = q.0 in omega arith ]
 

@@ -1,6 +1,6 @@
 //! Components, and the spanning forest that is found edge by edge.
 
-ghost use Rattle.std.specs.Prelude.{◌≡◌, ◌≢◌, ◌<◌, ℕ, ◌↔◌, [], ◌∷◌, ◌++◌, IfOk, OnOk, IsTrue, map, length, slice_index, nat_eq, if◌then◌else◌};
+ghost use Rattle.std.specs.Prelude.{◌≡◌, ◌≢◌, ◌<◌, ℕ, ◌↔◌, [], ◌∷◌, ◌++◌, IfOk, OnOk, IsTrue, All, map, length, slice_index, nat_eq, if◌then◌else◌};
 ghost use Rattle.graph_theory.specs.Labels.{merged};
 ghost use Rattle.graph_theory.specs.Walks.{Walk, IsLeastConnected, IsForest};
 ghost use Rattle.graph_core.specs.NamedGraphs.{ends_of};
@@ -26,6 +26,7 @@ impl Graph {
     /// The edges whose ends are not connected by those kept before, in order: a forest that connects what the edges connect.
     pub fn spanning_forest(&self, alloc: Global) -> Result<EdgeList, AllocError>
         ensures greedy { IfOk result (λ kept. IsGreedyForest self.now kept) }
+        ensures within { IfOk result (λ kept. All (λ e. e < length self.now.ends) kept) }
         ensures forest { IfOk result (λ kept. IsForest (edges_at self.now kept)) }
         ensures spanning { IfOk result (λ kept. (p q : ℕ) → Walk self.now.ends p q → Walk (edges_at self.now kept) p q) }
     {

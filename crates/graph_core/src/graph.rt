@@ -100,7 +100,7 @@ impl Graph {
     /// Puts a vertex without a class into a class.
     pub fn put_class(&mut self, vertex: usize, class: u32)
         requires vertex { vertex < length self.old.names }
-        requires unclassed { slice_get self.old.classes vertex ≡ Some None }
+        requires unclassed { slice_index_or self.old.classes vertex None ≡ None }
         ensures { self.new ≡ record self.old { classes = slice_set self.old.classes vertex (Some class) } }
     {
         self.vertices[vertex] = Some(class);

@@ -10,6 +10,8 @@ mod edge_pairs;
 mod graph;
 mod neighbours;
 mod path;
+#[cfg(test)]
+mod tests;
 mod triangles;
 mod vertex_list;
 mod vertex_lists;

@@ -1,13 +1,14 @@
-use Rattle.std.proofs.Common.{ℕ, refl, ◌<◌, ap, sym, subst, ◌∙◌, ◌++◌, [], ◌∷◌, arith, length, get_or, take, ◌≡◌, nat_eq}
+use Rattle.std.proofs.Common.{All, ℕ, refl, ◌<◌, ap, sym, subst, ◌∙◌, ◌++◌, [], ◌∷◌, arith, length, get_or, take, ◌≡◌, nat_eq}
 use Rattle.std.specs.Prelude.{if◌then◌else◌}
 use Rattle.std.proofs.lemmas.List.Elements.{All-get_or}
+use Rattle.vector_spaces.proofs.Members.{all-In}
 use Rattle.graph_theory.specs.Labels.{label}
 use Rattle.graph_theory.specs.Walks.{Walk, IsForest}
 use Rattle.graph_theory.specs.Greedy.{greedy_edges}
 use Rattle.graph_core.specs.NamedGraphs.{ends_of}
 use Rattle.graph_core.specs.Forests.{labels, edges_at, IsGreedyForest}
 use Rattle.graph_core.proofs.LabelLists.{labels-step, labels-length, labels-at}
-use Rattle.graph_core.proofs.GreedyForests.{greedy-nil, greedy_more, greedy_is, greedy_is_forest, greedy_spans}
+use Rattle.graph_core.proofs.GreedyForests.{greedy_below, greedy-nil, greedy_more, greedy_is, greedy_is_forest, greedy_spans}
 use Rattle.graph_core.proofs.graph.Graph.spanning_forest.Goals as goal
 
 pub loop-edge-init : goal.loop-edge-init
@@ -45,3 +46,6 @@ returns-clause-forest c = subst (λ F. IsForest (edges_at c.args.self.now F)) (k
 
 pub returns-clause-spanning : goal.returns-clause-spanning
 returns-clause-spanning c p q w = subst (λ F. Walk (edges_at c.args.self.now F) p q) (kept c) (greedy_spans c.args.self.now.ends p q w)
+
+pub returns-clause-within : goal.returns-clause-within
+returns-clause-within c = subst (All (λ e. e < length c.args.self.now.ends)) (kept c) (all-In (λ e. e < length c.args.self.now.ends) (greedy_edges (ends_of c.args.self.now) (length c.args.self.now.ends)) (greedy_below (ends_of c.args.self.now) (length c.args.self.now.ends)))
