@@ -22,3 +22,4 @@ pub mod LinearMaps
 pub mod Quotients
 pub mod CoordinateQuotients
 pub mod TupleQuotients
+pub mod IteratedQuotients

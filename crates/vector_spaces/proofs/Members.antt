@@ -23,6 +23,10 @@ In-append x [] ws h = inr h
 In-append x (v ∷ vs) ws (inl e) = inl (inl e)
 In-append x (v ∷ vs) ws (inr h) = elim (In-append x vs ws h) [ inl k ↦ inl (inr k) | inr k ↦ inr k ]
 
+-- in the end of a list, if not in its front
+pub in_end : {V : Type 0} (x : V) (vs ws : List V) → In x (vs ++ ws) → ¬ (In x vs) → In x ws
+in_end x vs ws i n = elim (In-append x vs ws i) [ inl j ↦ absurd (n j) | inr j ↦ j ]
+
 pub In-all : {X : Type 0} (P : X → Type 0) (xs : List X) → All P xs → (x : X) → In x xs → P x
 In-all P [] h x i = absurd i
 In-all P (y ∷ xs) h x (inl e) = subst P (sym e) (All-head P y xs h)

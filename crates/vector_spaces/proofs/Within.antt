@@ -2,7 +2,7 @@
 use Rattle.std.proofs.Common.{inl, inr, List, [], ◌∷◌, ◌++◌, refl, sym, subst}
 use Rattle.vector_spaces.proofs.Members.{In, In-append, In-append_left, In-append_right}
 use Rattle.vector_spaces.proofs.Space.{Field, Space}
-use Rattle.vector_spaces.proofs.Span.{InSpan, span_member, span_more, span_through}
+use Rattle.vector_spaces.proofs.Span.{InSpan, span_member, span_more, span_through, decide_span}
 
 -- each of us is in the span of vs
 pub record Within {K V : Type 0} {f : Field K} (s : Space f V) (us vs : List V) : Type 0 where
@@ -51,6 +51,15 @@ module _ {K V : Type 0} {f : Field K} (s : Space f V) where
 
   pub within_right : (us vs ws : List V) → Within s us ws → Within s us (vs ++ ws)
   within_right us vs ws h = record { each = λ x i. right_in vs ws x (h.each x i) }
+
+  pub decide_within : (us vs : List V) → Dec (Within s us vs)
+  decide_within [] vs = yes (within_nil vs)
+  decide_within (u ∷ us) vs = go (decide_span f s vs u) (decide_within us vs)
+    where
+      go : Dec (InSpan s vs u) → Dec (Within s us vs) → Dec (Within s (u ∷ us) vs)
+      go (yes c) (yes h) = yes (within_cons u us vs c h)
+      go (no n) d = no (λ w. n (w.each u (inl refl)))
+      go d (no n) = no (λ w. n (record { each = λ v i. w.each v (inr i) }))
 
 -- places a list within the span of an append that holds it
 pub ruleset placing = (within_append, within_cons, within_nil, within_more, within_left, within_right, head_in, left_in, right_in, span_more, within_self)
