@@ -9,7 +9,7 @@ use Rattle.graph_theory.proofs.Labels.{label-nil, label-cons}
 use Rattle.graph_theory.specs.Walks.{IsLeastConnected}
 use Rattle.graph_theory.proofs.Walks.{label_is_least}
 use Rattle.graph_theory.proofs.Shuffles.{label-snoc}
-use Rattle.graph_core.specs.Forests.{labels}
+use Rattle.graph_core.specs.LabelLists.{labels}
 
 map_by : {X Y : Type 0} (f g : X → Y) → ((x : X) → f x ≡ g x) → (xs : List X) → map f xs ≡ map g xs
 map_by f g h xs = λ i. map (λ x. h x i) xs

@@ -6,4 +6,3 @@ mod PairLists
 mod LabelLists
 mod GreedyForests
 mod Searches
-mod ForestPaths

@@ -4,8 +4,7 @@ use Rattle.std.specs.Prelude.{◌↔◌}
 use Rattle.std.specs.List.{AllPairs, Contains}
 use Rattle.std.proofs.lemmas.Bool.{ltb-true, lt-ltb, eqb-true, eq-eqb, and_parts, and_from, or_cases, or_left, or_right}
 use Rattle.vector_spaces.proofs.Members.{In, contains-In, In-contains}
-use Rattle.graph_core.specs.Orders.{IsPairBefore}
-use Rattle.graph_core.specs.Adjacency.{HaveCommonEnd}
+use Rattle.graph_core.specs.Adjacency.{HaveCommonEnd, IsPairBefore}
 use Rattle.graph_core.specs.Gathered.{gathered, meets, pair_by, pairs_at}
 use Rattle.graph_core.proofs.Gathered.{In-gathered, gathered-In, In-if, In_if-from, Pairwise, Pairwise-gathered, Pairwise-if, all_pairs}
 

@@ -1,16 +1,18 @@
 -- The search along the edges of a forest: one vertex more is reached, and the way back is a path.
-use Rattle.std.proofs.Common.{◌≡◌, ◌≢◌, ℕ, zero, suc, ◌+◌, ◌<◌, ◌≤◌, ◌⊎◌, inl, inr, List, [], ◌∷◌, Option, Some, None, Bool, true, false, length, get_or, refl, sym, ap, subst, ◌∙◌, arith, ◌||◌, IsTrue, ◌++◌, append_assoc, append-nil}
+use Rattle.std.proofs.Common.{All, map, ◌≡◌, ◌≢◌, ℕ, zero, suc, ◌+◌, ◌<◌, ◌≤◌, ◌⊎◌, inl, inr, List, [], ◌∷◌, Option, Some, None, Bool, true, false, length, get_or, refl, sym, ap, subst, ◌∙◌, arith, ◌||◌, IsTrue, ◌++◌, append_assoc, append-nil}
 use Rattle.std.specs.Prelude.{is_some, slice_set, replicate}
-use Rattle.std.specs.List.{Contains}
 use Rattle.std.proofs.Common.{below_more}
 use Rattle.std.proofs.lemmas.Option.{none-some}
 use Rattle.std.proofs.lemmas.List.{get_or-set_same, get_or-set_other, length-set, length-replicate}
 use Rattle.std.proofs.lemmas.Bool.{false≢true, true≢false}
 use Rattle.std.proofs.Math.Decide.{ℕ_discrete}
-use Rattle.vector_spaces.proofs.Members.{In, In-get_or, contains-In, all-In}
+use Rattle.vector_spaces.proofs.Members.{In, In-all, In-get_or, In_map-from}
 use Rattle.vector_spaces.proofs.Distinct.{IsDistinct}
 use Rattle.graph_core.specs.declared.ways.Way.{Way}
-use Rattle.graph_core.specs.Paths.{Leads, IsPath}
+use Rattle.graph_theory.specs.Paths.{LeadThrough, last_of, IsPath}
+use Rattle.graph_theory.specs.Walks.{Walk}
+use Rattle.graph_theory.proofs.Walks.{connected_of_walk}
+use Rattle.graph_theory.proofs.Labels.{connected_invariant}
 use Rattle.graph_core.specs.Ways.{way_at, is_reached, unreached, IsStep, AreWays, GoDown, extended_by, extended, differ, back, before}
 
 pub some_within : (T : List (Option Way)) (v : ℕ) (w : Way) → way_at T v ≡ Some w → v < length T
@@ -30,7 +32,7 @@ same_way T v w x h k = cc
 
 module _ (ends : ℕ → ℕ × ℕ) (F : List ℕ) (to : ℕ) (T : List (Option Way)) (h : AreWays ends F to T) where
   -- the vertex q is reached from p by the edge i
-  reach : (p q i : ℕ) (w : Way) → Contains F i → (ends i ≡ (q, p)) ⊎ (ends i ≡ (p, q)) → way_at T p ≡ Some w → way_at T q ≡ None → q < length T →
+  reach : (p q i : ℕ) (w : Way) → In i F → (ends i ≡ (q, p)) ⊎ (ends i ≡ (p, q)) → way_at T p ≡ Some w → way_at T q ≡ None → q < length T →
       AreWays ends F to (slice_set T q (Some (record { steps = w.steps + 1; edge = i; next = p })))
   reach p q i w held joins at none l = record {
     start = h.start;
@@ -86,7 +88,7 @@ module _ (ends : ℕ → ℕ × ℕ) (F : List ℕ) (to : ℕ) (T : List (Option
   reached_not : (v : ℕ) → way_at T v ≡ None → is_reached T v ≡ false
   reached_not v e = ap is_some e
 
-  module _ (i : ℕ) (held : Contains F i) (first : (ends i).0 < length T) (second : (ends i).1 < length T) where
+  module _ (i : ℕ) (held : In i F) (first : (ends i).0 < length T) (second : (ends i).1 < length T) where
     pub extended_ways : AreWays ends F to (extended T (ends i) i)
     extended_ways = go (way_at T (ends i).0) (way_at T (ends i).1) refl refl
       where
@@ -140,8 +142,8 @@ spread_more ends F to T0 T changed more i h l a b m s = go changed more m s.fewe
     e : ℕ
     e = get_or F i 0
 
-    held : Contains F e
-    held = contains-In F e (In-get_or F i 0 l)
+    held : In e F
+    held = In-get_or F i 0 l
 
     less : more ≡ true → unreached (extended T (ends e) e) < unreached T
     less q = extended_fewer ends F to T h e held a b (sym m ∙ q)
@@ -218,8 +220,9 @@ first_ways ends F n to l = record {
 -- the way of k steps is a path, whose vertices have ways of fewer steps
 record IsWayBack (ends : ℕ → ℕ × ℕ) (F : List ℕ) (to : ℕ) (T : List (Option Way)) (k v : ℕ) : Type 0 where
   vertices : List ℕ
-  leads : Leads ends v (back T k v) vertices to
-  inside : (e : ℕ) → In e (back T k v) → Contains F e
+  leads : LeadThrough ends v (back T k v) vertices
+  last : last_of v vertices ≡ to
+  inside : (e : ℕ) → In e (back T k v) → In e F
   low : (u : ℕ) → In u vertices → (x : Way) × (way_at T u ≡ Some x) × (x.steps < k)
   different : IsDistinct (v ∷ vertices)
 
@@ -227,7 +230,7 @@ way_back : (ends : ℕ → ℕ × ℕ) (F : List ℕ) (to : ℕ) (T : List (Opti
 way_back ends F to T h zero v w at q = go (h.each v w at)
   where
     go : ((v ≡ to) × (w.steps ≡ 0)) ⊎ IsStep ends F T v w → IsWayBack ends F to T zero v
-    go (inl s) = record { vertices = []; leads = s.0; inside = λ e n. absurd n; low = λ u n. absurd n; different = (λ n. n, tt) }
+    go (inl s) = record { vertices = []; leads = tt; last = s.0; inside = λ e n. absurd n; low = λ u n. absurd n; different = (λ n. n, tt) }
     go (inr s) = absurd (let l = s.shorter in omega arith)
 way_back ends F to T h (suc k) v w at q = go (h.each v w at) (λ u x. way_back ends F to T h k u x)
   where
@@ -238,26 +241,28 @@ way_back ends F to T h (suc k) v w at q = go (h.each v w at) (λ u x. way_back e
         let r = ih w.next s.after s.next fewer in
         let here : back T (suc k) v ≡ w.edge ∷ back T k w.next = ap (λ o. before o (λ u. back T k u)) at in record {
           vertices = w.next ∷ r.vertices;
-          leads = subst (λ es. Leads ends v es (w.next ∷ r.vertices) to) (sym here) (s.joins, r.leads);
+          leads = subst (λ es. LeadThrough ends v es (w.next ∷ r.vertices)) (sym here) (s.joins, r.leads);
+          last = r.last;
           inside = λ e i. inner e (subst (In e) here i) r.inside;
           low = lower r.vertices r.low fewer;
           different = (λ i. let l = lower r.vertices r.low fewer v i in absurd (let same = ap (λ (y : Way). y.steps) (same_way T v w l.0 at l.1) in let b = l.2 in omega arith), r.different);
         }
       where
-        inner : (e : ℕ) → In e (w.edge ∷ back T k w.next) → ((d : ℕ) → In d (back T k w.next) → Contains F d) → Contains F e
-        inner e (inl p) rest = subst (Contains F) (sym p) s.held
+        inner : (e : ℕ) → In e (w.edge ∷ back T k w.next) → ((d : ℕ) → In d (back T k w.next) → In d F) → In e F
+        inner e (inl p) rest = subst (λ z. In z F) (sym p) s.held
         inner e (inr i) rest = rest e i
 
         lower : (vs : List ℕ) → ((u : ℕ) → In u vs → (x : Way) × (way_at T u ≡ Some x) × (x.steps < k)) → s.after.steps ≡ k → (u : ℕ) → In u (w.next ∷ vs) → (x : Way) × (way_at T u ≡ Some x) × (x.steps < suc k)
         lower vs rest f u (inl p) = (s.after, ap (way_at T) p ∙ s.next, omega arith)
         lower vs rest f u (inr i) = let l = rest u i in (l.0, l.1, omega (arith, l.2))
 
-pub path_back : (ends : ℕ → ℕ × ℕ) (F : List ℕ) (to : ℕ) (T : List (Option Way)) → AreWays ends F to T → (v : ℕ) (w : Way) → way_at T v ≡ Some w → IsPath ends F v (back T w.steps v) to
+pub path_back : (ends : ℕ → ℕ × ℕ) (F : List ℕ) (to : ℕ) (T : List (Option Way)) → AreWays ends F to T → (v : ℕ) (w : Way) → way_at T v ≡ Some w → IsPath ends F v to (back T w.steps v)
 path_back ends F to T h v w at = let r = way_back ends F to T h w.steps v w at refl in record {
-  inside = all-In (Contains F) (back T w.steps v) r.inside;
-  vertices = r.vertices;
+  others = r.vertices;
+  inside = r.inside;
   leads = r.leads;
-  different = r.different;
+  last = r.last;
+  distinct = r.different;
 }
 
 -- one step of the way is written
@@ -278,3 +283,16 @@ path_step T down at from i n path w w0 k0 q h l k = go (down at w k)
 
 pub path_end : (T : List (Option Way)) (at from i n : ℕ) (path : List ℕ) (w0 : Way) → w0.steps + i ≡ n → path ++ back T w0.steps at ≡ back T n from → n ≤ i → path ≡ back T n from
 path_end T at from i n path w0 q h l = let z : zero ≡ w0.steps = omega arith in sym (append-nil path) ∙ ap (λ m. path ++ back T m at) z ∙ h
+
+-- where each edge has both ends reached or neither, a walk from elsewhere doesn't lead to the start
+pub no_walk : (ends : ℕ → ℕ × ℕ) (F : List ℕ) (to : ℕ) (T : List (Option Way)) → AreWays ends F to T → All (λ e. is_reached T (ends e).0 ≡ is_reached T (ends e).1) F → (from : ℕ) → is_reached T from ≡ false →
+    ¬ (Walk (map ends F) from to)
+no_walk ends F to T h closed from none w =
+    true≢false (sym (ap is_some h.started.0) ∙ sym (connected_invariant (is_reached T) (map ends F) edge from to (connected_of_walk (map ends F) from to w)) ∙ none)
+  where
+    edge : (e : ℕ × ℕ) → In e (map ends F) → is_reached T e.0 ≡ is_reached T e.1
+    edge e i = let r = In_map-from ends e F i in subst (λ d. is_reached T d.0 ≡ is_reached T d.1) (sym r.2) (In-all (λ e. is_reached T (ends e).0 ≡ is_reached T (ends e).1) F closed r.0 r.1)
+
+pub some_of : {X : Type 0} (o : Option X) → is_some o ≡ true → (x : X) × (o ≡ Some x)
+some_of None h = absurd (true≢false (sym h))
+some_of (Some x) h = (x, refl)

@@ -1,5 +1,5 @@
 -- Graphs with names: what a graph is seen as.
-use Rattle.std.specs.Prelude.{◌≡◌, ◌≢◌, ℕ, ◌<◌, List, Option, All, length, slice_index_or}
+use Rattle.std.specs.Prelude.{◌≡◌, ◌≢◌, ℕ, ◌<◌, List, Option, All, length}
 use Rattle.std.specs.List.{AllPairs}
 
 -- the names of the vertices, the two ends of each edge, and the class of each vertex, or none
@@ -13,7 +13,3 @@ pub record IsNamedGraph (g : NamedGraph) : Type 0 where
   pub different : AllPairs (λ x y. x ≢ y) g.names
   pub within : All (λ (e : ℕ × ℕ). (e.0 < length g.names) × (e.1 < length g.names)) g.ends
   pub classed : length g.classes ≡ length g.names
-
--- the two ends of an edge
-abbrev pub ends_of : NamedGraph → ℕ → ℕ × ℕ
-ends_of g e = slice_index_or g.ends e (0, 0)

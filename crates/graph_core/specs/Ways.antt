@@ -1,6 +1,7 @@
 -- The search from a vertex along the edges of a forest: for each vertex the way back, where it is reached.
 use Rattle.std.specs.Prelude.{◌≡◌, ℕ, zero, suc, ◌+◌, ◌<◌, ◌⊎◌, List, [], ◌∷◌, Bool, true, false, not, Option, Some, None, is_some, length, slice_set, slice_index_or}
-use Rattle.std.specs.List.{Contains, filter}
+use Rattle.std.specs.List.{filter}
+use Rattle.vector_spaces.proofs.Members.{In}
 use Rattle.graph_core.specs.declared.ways.Way.{Way}
 
 abbrev pub way_at : List (Option Way) → ℕ → Option Way
@@ -15,7 +16,7 @@ unreached T = length (filter (λ o. not (is_some o)) T)
 
 -- the way w from v is an edge of F to a vertex from which the way is one step shorter
 pub record IsStep (ends : ℕ → ℕ × ℕ) (F : List ℕ) (T : List (Option Way)) (v : ℕ) (w : Way) : Type 0 where
-  pub held : Contains F w.edge
+  pub held : In w.edge F
   pub joins : (ends w.edge ≡ (v, w.next)) ⊎ (ends w.edge ≡ (w.next, v))
   pub after : Way
   pub next : way_at T w.next ≡ Some after

@@ -2,9 +2,8 @@
 
 ghost use Rattle.std.specs.Prelude.{◌≡◌, ◌<◌, ℕ, ◌↔◌, [], ◌∷◌, ◌++◌, IfOk, OnOk, length};
 ghost use Rattle.std.specs.List.{Contains, AllPairs};
-ghost use Rattle.graph_core.specs.NamedGraphs.{ends_of};
-ghost use Rattle.graph_core.specs.Orders.{IsPairBefore};
-ghost use Rattle.graph_core.specs.Adjacency.{HaveCommonEnd};
+ghost use Rattle.graph_theory.specs.Walks.{edge_at};
+ghost use Rattle.graph_core.specs.Adjacency.{HaveCommonEnd, IsPairBefore};
 ghost use Rattle.graph_core.specs.Gathered.{pair_by, pairs_at, meets};
 
 use crate::{EdgePairs, Graph};
@@ -13,7 +12,7 @@ use std::alloc::{AllocError, Global};
 impl Graph {
     /// All pairs of different edges with a common end, the smaller number first, in lexicographic order.
     pub fn adjacent_pairs(&self, alloc: Global) -> Result<EdgePairs, AllocError>
-        ensures members { IfOk result (λ found. (p : ℕ × ℕ) → Contains found p ↔ ((p.0 < p.1) × (p.1 < length self.now.ends) × HaveCommonEnd (ends_of self.now p.0) (ends_of self.now p.1))) }
+        ensures members { IfOk result (λ found. (p : ℕ × ℕ) → Contains found p ↔ ((p.0 < p.1) × (p.1 < length self.now.ends) × HaveCommonEnd (edge_at self.now.ends p.0) (edge_at self.now.ends p.1))) }
         ensures order { IfOk result (λ found. AllPairs IsPairBefore found) }
     {
         let mut found = EdgePairs::new(alloc);
@@ -27,7 +26,7 @@ impl Graph {
 /// Puts the pairs of the edge with later edges last.
 fn push_pairs_at(graph: &Graph, first: usize, found: &mut EdgePairs) -> Result<(), AllocError>
     requires { first < length graph.now.ends }
-    ensures { OnOk result (found.new ≡ found.old ++ pairs_at (ends_of graph.now) (length graph.now.ends) first) }
+    ensures { OnOk result (found.new ≡ found.old ++ pairs_at (edge_at graph.now.ends) (length graph.now.ends) first) }
 {
     for second in 0..graph.edges() {
         push_pair(graph, first, second, found)?;
@@ -44,7 +43,7 @@ fn push_pair(
 ) -> Result<(), AllocError>
     requires first_edge { first < length graph.now.ends }
     requires second_edge { second < length graph.now.ends }
-    ensures { OnOk result (found.new ≡ found.old ++ pair_by (ends_of graph.now) first second) }
+    ensures { OnOk result (found.new ≡ found.old ++ pair_by (edge_at graph.now.ends) first second) }
 {
     if first < second && meet(graph.ends(first), graph.ends(second)) {
         found.push(first, second)?;

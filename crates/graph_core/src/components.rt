@@ -3,8 +3,9 @@
 ghost use Rattle.std.specs.Prelude.{◌≡◌, ◌≢◌, ◌<◌, ℕ, ◌↔◌, [], ◌∷◌, ◌++◌, IfOk, OnOk, IsTrue, All, map, length, slice_index, nat_eq, if◌then◌else◌};
 ghost use Rattle.graph_theory.specs.Labels.{merged};
 ghost use Rattle.graph_theory.specs.Walks.{Walk, IsLeastConnected, IsForest};
-ghost use Rattle.graph_core.specs.NamedGraphs.{ends_of};
-ghost use Rattle.graph_core.specs.Forests.{IsGreedyForest, edges_at, labels};
+ghost use Rattle.graph_theory.specs.Walks.{edge_at};
+ghost use Rattle.graph_core.specs.LabelLists.{labels};
+ghost use Rattle.graph_theory.specs.Greedy.{IsGreedyForest};
 
 use crate::{EdgeList, Graph, VertexList};
 use std::alloc::{AllocError, Global};
@@ -25,10 +26,10 @@ impl Graph {
 
     /// The edges whose ends are not connected by those kept before, in order: a forest that connects what the edges connect.
     pub fn spanning_forest(&self, alloc: Global) -> Result<EdgeList, AllocError>
-        ensures greedy { IfOk result (λ kept. IsGreedyForest self.now kept) }
+        ensures greedy { IfOk result (λ kept. IsGreedyForest self.now.ends kept) }
         ensures within { IfOk result (λ kept. All (λ e. e < length self.now.ends) kept) }
-        ensures forest { IfOk result (λ kept. IsForest (edges_at self.now kept)) }
-        ensures spanning { IfOk result (λ kept. (p q : ℕ) → Walk self.now.ends p q → Walk (edges_at self.now kept) p q) }
+        ensures forest { IfOk result (λ kept. IsForest (map (edge_at self.now.ends) kept)) }
+        ensures spanning { IfOk result (λ kept. (p q : ℕ) → Walk self.now.ends p q → Walk (map (edge_at self.now.ends) kept) p q) }
     {
         let mut labels = own_labels(alloc, self.vertices())?;
         let mut kept = EdgeList::new(alloc);
@@ -48,8 +49,8 @@ fn keep(
 ) -> Result<(), AllocError>
     requires edge { edge < length graph.now.ends }
     requires count { length labels.old.items ≡ length graph.now.names }
-    ensures joined { let e = ends_of graph.now edge in OnOk result (labels.new.items ≡ map (merged (slice_index labels.old.items e.0) (slice_index labels.old.items e.1)) labels.old.items) }
-    ensures kept { let e = ends_of graph.now edge in OnOk result (kept.new ≡ kept.old ++ (if nat_eq (slice_index labels.old.items e.0) (slice_index labels.old.items e.1) then [] else edge ∷ [])) }
+    ensures joined { let e = edge_at graph.now.ends edge in OnOk result (labels.new.items ≡ map (merged (slice_index labels.old.items e.0) (slice_index labels.old.items e.1)) labels.old.items) }
+    ensures kept { let e = edge_at graph.now.ends edge in OnOk result (kept.new ≡ kept.old ++ (if nat_eq (slice_index labels.old.items e.0) (slice_index labels.old.items e.1) then [] else edge ∷ [])) }
 {
     let (first, second) = graph.ends(edge);
     if join(labels, first, second) {

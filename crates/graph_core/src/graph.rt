@@ -2,7 +2,8 @@
 
 ghost use Rattle.std.specs.Prelude.{◌≡◌, ◌<◌, ◌≤◌, ◌^◌, [], ◌∷◌, ◌++◌, None, Some, IfSome, IfNone, IfOk, OnOk, OnErr, length, slice_get, slice_set, slice_index_or};
 ghost use Rattle.std.specs.List.{Contains};
-ghost use Rattle.graph_core.specs.NamedGraphs.{IsNamedGraph, ends_of};
+ghost use Rattle.graph_core.specs.NamedGraphs.{IsNamedGraph};
+ghost use Rattle.graph_theory.specs.Walks.{edge_at};
 
 use indexmap::IndexMap;
 use std::alloc::{AllocError, Global};
@@ -127,7 +128,7 @@ impl Graph {
     /// The two ends of an edge, as it was put.
     pub fn ends(&self, edge: usize) -> (usize, usize)
         requires { edge < length self.now.ends }
-        ensures value { result ≡ ends_of self.now edge }
+        ensures value { result ≡ edge_at self.now.ends edge }
         ensures first_vertex { result.0 < length self.now.names }
         ensures second_vertex { result.1 < length self.now.names }
     {

@@ -1,10 +1,9 @@
 //! Paths in a forest.
 
-ghost use Rattle.std.specs.Prelude.{◌≡◌, ◌<◌, ◌↔◌, ℕ, List, None, IfOk, IfSome, All, length};
+ghost use Rattle.std.specs.Prelude.{◌≡◌, ◌<◌, ◌↔◌, ℕ, List, None, IfOk, map, IfSome, All, length};
 ghost use Rattle.graph_theory.specs.Walks.{Walk, IsForest};
-ghost use Rattle.graph_core.specs.NamedGraphs.{ends_of};
-ghost use Rattle.graph_core.specs.Forests.{edges_at};
-ghost use Rattle.graph_core.specs.Paths.{IsPath};
+ghost use Rattle.graph_theory.specs.Walks.{edge_at};
+ghost use Rattle.graph_theory.specs.Paths.{IsPath};
 
 use crate::ways::Ways;
 use crate::{EdgeList, Graph};
@@ -20,12 +19,12 @@ impl Graph {
         to: usize,
     ) -> Result<Option<EdgeList>, AllocError>
         requires edges { All (λ e. e < length self.now.ends) forest.now }
-        requires forest { IsForest (edges_at self.now forest.now) }
+        requires forest { IsForest (map (edge_at self.now.ends) forest.now) }
         requires from_vertex { from < length self.now.names }
         requires to_vertex { to < length self.now.names }
-        ensures path { IfOk result (λ found. IfSome found (λ path. IsPath (ends_of self.now) forest.now from path to)) }
-        ensures only { IfOk result (λ found. IfSome found (λ path. (other : List ℕ) → IsPath (ends_of self.now) forest.now from other to → other ≡ path)) }
-        ensures none { IfOk result (λ found. (found ≡ None) ↔ ¬ (Walk (edges_at self.now forest.now) from to)) }
+        ensures path { IfOk result (λ found. IfSome found (λ path. IsPath (edge_at self.now.ends) forest.now from to path)) }
+        ensures only { IfOk result (λ found. IfSome found (λ path. (other : List ℕ) → IsPath (edge_at self.now.ends) forest.now from to other → other ≡ path)) }
+        ensures none { IfOk result (λ found. (found ≡ None) ↔ ¬ (Walk (map (edge_at self.now.ends) forest.now) from to)) }
     {
         let mut ways = Ways::new(alloc, self.vertices(), to)?;
         ways.fill(self, forest);

@@ -1,9 +1,7 @@
 //! The triangles of a graph.
 
-ghost use Rattle.std.specs.Prelude.{◌≡◌, ◌<◌, ℕ, List, ◌↔◌, [], ◌∷◌, ◌++◌, IfOk, OnOk, All, length};
-ghost use Rattle.std.specs.List.{Contains, AllPairs};
-ghost use Rattle.graph_core.specs.Orders.{IsBefore};
-ghost use Rattle.graph_core.specs.Adjacency.{IsTriangle};
+ghost use Rattle.std.specs.Prelude.{◌≡◌, ◌<◌, [], ◌∷◌, ◌++◌, IfOk, OnOk, All, length};
+ghost use Rattle.graph_core.specs.Adjacency.{AreTriangleLists};
 ghost use Rattle.graph_core.specs.Gathered.{triangle_by, triangles_on, triangles_at};
 
 use crate::neighbours::Neighbours;
@@ -13,8 +11,7 @@ use std::alloc::{AllocError, Global};
 impl Graph {
     /// All triples of vertices that are pairwise adjacent, each increasing, in lexicographic order.
     pub fn triangles(&self, alloc: Global) -> Result<VertexLists, AllocError>
-        ensures members { IfOk result (λ found. (t : List ℕ) → Contains found t ↔ IsTriangle self.now.ends t) }
-        ensures order { IfOk result (λ found. AllPairs IsBefore found) }
+        ensures { IfOk result (AreTriangleLists self.now.ends) }
     {
         let neighbours = Neighbours::of(alloc, self)?;
         let mut found = VertexLists::new(alloc);

@@ -1,7 +1,7 @@
 //! The ways from the vertices of a forest to one of them.
 
 ghost use Rattle.std.specs.Prelude.{◌≡◌, ◌+◌, ◌<◌, ℕ, List, IfOk, IsTrue, Some, All, false, length};
-ghost use Rattle.graph_core.specs.NamedGraphs.{ends_of};
+ghost use Rattle.graph_theory.specs.Walks.{edge_at};
 ghost use Rattle.graph_core.specs.Ways.{AreWays, GoDown, way_at, is_reached, unreached, extended, differ, back};
 
 use crate::{EdgeList, Graph};
@@ -46,11 +46,11 @@ impl Ways {
     pub(crate) fn fill(&mut self, graph: &Graph, forest: &EdgeList)
         requires edges { All (λ e. e < length graph.now.ends) forest.now }
         requires count { length self.old.table.items ≡ length graph.now.names }
-        requires ways { AreWays (ends_of graph.now) forest.now self.old.to self.old.table.items }
+        requires ways { AreWays (edge_at graph.now.ends) forest.now self.old.to self.old.table.items }
         ensures vertex { self.new.to ≡ self.old.to }
         ensures count { length self.new.table.items ≡ length self.old.table.items }
-        ensures ways { AreWays (ends_of graph.now) forest.now self.new.to self.new.table.items }
-        ensures closed { All (λ e. is_reached self.new.table.items (ends_of graph.now e).0 ≡ is_reached self.new.table.items (ends_of graph.now e).1) forest.now }
+        ensures ways { AreWays (edge_at graph.now.ends) forest.now self.new.to self.new.table.items }
+        ensures closed { All (λ e. is_reached self.new.table.items (edge_at graph.now.ends e).0 ≡ is_reached self.new.table.items (edge_at graph.now.ends e).1) forest.now }
     {
         while self.spread(graph, forest) {}
     }
@@ -59,12 +59,12 @@ impl Ways {
     fn spread(&mut self, graph: &Graph, forest: &EdgeList) -> bool
         requires edges { All (λ e. e < length graph.now.ends) forest.now }
         requires count { length self.old.table.items ≡ length graph.now.names }
-        requires ways { AreWays (ends_of graph.now) forest.now self.old.to self.old.table.items }
+        requires ways { AreWays (edge_at graph.now.ends) forest.now self.old.to self.old.table.items }
         ensures vertex { self.new.to ≡ self.old.to }
         ensures count { length self.new.table.items ≡ length self.old.table.items }
-        ensures ways { AreWays (ends_of graph.now) forest.now self.new.to self.new.table.items }
+        ensures ways { AreWays (edge_at graph.now.ends) forest.now self.new.to self.new.table.items }
         ensures fewer { IsTrue result → unreached self.new.table.items < unreached self.old.table.items }
-        ensures closed { result ≡ false → All (λ e. is_reached self.new.table.items (ends_of graph.now e).0 ≡ is_reached self.new.table.items (ends_of graph.now e).1) forest.now }
+        ensures closed { result ≡ false → All (λ e. is_reached self.new.table.items (edge_at graph.now.ends e).0 ≡ is_reached self.new.table.items (edge_at graph.now.ends e).1) forest.now }
     {
         let mut changed = false;
         for i in 0..forest.len() {

@@ -1,5 +1,5 @@
 use Rattle.std.proofs.Common.{ap, ◌∙◌, arith, length, take, ◌≡◌, []}
-use Rattle.graph_core.specs.Forests.{labels}
+use Rattle.graph_core.specs.LabelLists.{labels}
 use Rattle.graph_core.proofs.LabelLists.{labels-step, labels-length, labels-least, labels-whole}
 use Rattle.graph_core.proofs.graph.Graph.components.Goals as goal
 

@@ -1,5 +1,5 @@
 use Rattle.std.proofs.Common.{◌≡◌, take, length}
-use Rattle.graph_core.specs.Forests.{labels}
+use Rattle.graph_core.specs.LabelLists.{labels}
 use Rattle.graph_core.proofs.graph.Graph.components.Given as goal
 
 abbrev pub invariant-loop-edge : goal.invariant-loop-edge

@@ -1,10 +1,7 @@
 use Rattle.std.proofs.Common.{ℕ, List, Bool, ◌≡◌, length, ap, subst, sym, ◌∙◌, arith}
-use Rattle.std.specs.Prelude.{◌↔◌}
-use Rattle.std.specs.List.{Contains, AllPairs}
-use Rattle.graph_core.specs.Orders.{IsBefore}
-use Rattle.graph_core.specs.Adjacency.{IsTriangle}
+use Rattle.graph_core.specs.Adjacency.{AreTriangleLists}
 use Rattle.graph_core.specs.Gathered.{gathered, triangles_at}
-use Rattle.graph_core.proofs.TriangleLists.{members, in_order}
+use Rattle.graph_core.proofs.TriangleLists.{triangle_lists}
 use Rattle.graph_core.proofs.graph.Graph.triangles.Goals as goal
 
 abbrev of_rows : List (List Bool) → ℕ → List (List ℕ)
@@ -18,10 +15,6 @@ whole c =
     ap (λ n. gathered (triangles_at rows n) (length c.args.self.now.names)) (sym count) ∙ ap (gathered (triangles_at rows (length rows))) end
     ∙ subst (λ rs. gathered (triangles_at rs (length rs)) c.loop-first.first ≡ c.loop-first.found) c.neighbours.view_is (sym c.loop-first.invariant)
 
-pub returns-clause-members : goal.returns-clause-members
-returns-clause-members c t =
-    subst (λ xs. Contains xs t ↔ IsTriangle c.args.self.now.ends t) (whole c)
-    (members c.in_ok-neighbours.neighbours (length c.args.self.now.names) c.args.self.now.ends c.vertices-first-end.ensures.graph.within c.in_ok-neighbours.ensures.marks t)
-
-pub returns-clause-order : goal.returns-clause-order
-returns-clause-order c = subst (AllPairs IsBefore) (whole c) (in_order c.in_ok-neighbours.neighbours (length c.args.self.now.names))
+pub returns : goal.returns
+returns c = subst (AreTriangleLists c.args.self.now.ends) (whole c)
+    (triangle_lists c.in_ok-neighbours.neighbours (length c.args.self.now.names) c.args.self.now.ends c.vertices-first-end.ensures.graph.within c.in_ok-neighbours.ensures.marks)
