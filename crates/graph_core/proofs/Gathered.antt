@@ -30,16 +30,19 @@ pub all_pairs : {X : Type 0} (R : X → X → Type 0) (xs : List X) → Pairwise
 all_pairs R [] h = λ i j d l m. absurd (omega arith)
 all_pairs R (x ∷ xs) h = AllPairs-cons R x xs (all-In (R x) xs h.0) (all_pairs R xs h.1)
 
-pub Pairwise-append : {X : Type 0} (R : X → X → Type 0) (xs ys : List X) → Pairwise R xs → Pairwise R ys → ((x y : X) → In x xs → In y ys → R x y) → Pairwise R (xs ++ ys)
+pub Pairwise-append : {X : Type 0} (R : X → X → Type 0) (xs ys : List X) → Pairwise R xs → Pairwise R ys →
+    ((x y : X) → In x xs → In y ys → R x y) → Pairwise R (xs ++ ys)
 Pairwise-append R [] ys h k a = k
 Pairwise-append R (x ∷ xs) ys h k a = (
   λ y i. elim (In-append y xs ys i) [ inl j ↦ h.0 y j | inr j ↦ a x y (inl refl) j ],
   Pairwise-append R xs ys h.1 k (λ z y i j. a z y (inr i) j),
 )
 
-pub Pairwise-gathered : {X : Type 0} (R : X → X → Type 0) (f : ℕ → List X) (n : ℕ) → ((k : ℕ) → Pairwise R (f k)) → ((j k : ℕ) (x y : X) → j < k → In x (f j) → In y (f k) → R x y) → Pairwise R (gathered f n)
+pub Pairwise-gathered : {X : Type 0} (R : X → X → Type 0) (f : ℕ → List X) (n : ℕ) → ((k : ℕ) → Pairwise R (f k)) →
+    ((j k : ℕ) (x y : X) → j < k → In x (f j) → In y (f k) → R x y) → Pairwise R (gathered f n)
 Pairwise-gathered R f zero h a = tt
-Pairwise-gathered R f (suc n) h a = Pairwise-append R (gathered f n) (f n) (Pairwise-gathered R f n h a) (h n) (λ x y i j. let r = gathered-In f n x i in a r.0 n x y r.1 r.2 j)
+Pairwise-gathered R f (suc n) h a = Pairwise-append R (gathered f n) (f n) (Pairwise-gathered R f n h a) (h n)
+    (λ x y i j. let r = gathered-In f n x i in a r.0 n x y r.1 r.2 j)
 
 -- a list that is there only where b holds
 pub In_if-from : {X : Type 0} (b : Bool) (xs : List X) (x : X) → In x (if b then xs else []) → IsTrue b × In x xs

@@ -22,7 +22,8 @@ module _ (E : List (ℕ × ℕ)) where
   below_labels (suc i) w l =
       let ih : (v : ℕ) → label (edges_below (edge_at E) i) v ≡ label (take i E) v = λ v. below_labels i v (omega arith) in
       let e = edge_at E i in
-      label-cons e (edges_below (edge_at E) i) w ∙ (λ j. merged (ih e.0 j) (ih e.1 j) (ih w j)) ∙ sym (label-cons e (take i E) w) ∙ sym (label-snoc (take i E) e w)
+      label-cons e (edges_below (edge_at E) i) w ∙ (λ j. merged (ih e.0 j) (ih e.1 j) (ih w j)) ∙ sym (label-cons e (take i E) w)
+      ∙ sym (label-snoc (take i E) e w)
       ∙ ap (λ K. label K w) (sym (take_more E i (0, 0) (omega arith)) ∙ ap (λ n. take n E) (add-one i))
 
   -- the edges kept so far have the labels of all edges so far
@@ -40,12 +41,15 @@ module _ (E : List (ℕ × ℕ)) where
       second : label (kept (edge_at E) i) (edge_at E i).1 ≡ b
       second = kept_labels i (edge_at E i).1 (omega arith) ∙ sym q
 
-      go : (Connected (kept (edge_at E) i) (edge_at E i).0 (edge_at E i).1 × (greedy_edges (edge_at E) (suc i) ≡ greedy_edges (edge_at E) i)) ⊎
-          (¬ (Connected (kept (edge_at E) i) (edge_at E i).0 (edge_at E i).1) × (greedy_edges (edge_at E) (suc i) ≡ greedy_edges (edge_at E) i ++ i ∷ [])) →
+      go : (Connected (kept (edge_at E) i) (edge_at E i).0 (edge_at E i).1 ×
+          (greedy_edges (edge_at E) (suc i) ≡ greedy_edges (edge_at E) i)) ⊎
+          (¬ (Connected (kept (edge_at E) i) (edge_at E i).0 (edge_at E i).1) ×
+          (greedy_edges (edge_at E) (suc i) ≡ greedy_edges (edge_at E) i ++ i ∷ [])) →
           greedy_edges (edge_at E) i ++ (if nat_eq a b then [] else i ∷ []) ≡ greedy_edges (edge_at E) (i + 1)
       go (inl s) = ap (λ t. greedy_edges (edge_at E) i ++ (if t then [] else i ∷ [])) (eq-eqb a b (sym first ∙ s.0 ∙ second))
           ∙ append-nil (greedy_edges (edge_at E) i) ∙ sym s.1 ∙ ap (greedy_edges (edge_at E)) (sym (add-one i))
-      go (inr s) = ap (λ t. greedy_edges (edge_at E) i ++ (if t then [] else i ∷ [])) (ne_eqb a b (λ e. s.0 (first ∙ e ∙ sym second))) ∙ sym s.1
+      go (inr s) = ap (λ t. greedy_edges (edge_at E) i ++ (if t then [] else i ∷ [])) (ne_eqb a b (λ e. s.0 (first ∙ e ∙ sym second)))
+          ∙ sym s.1
           ∙ ap (greedy_edges (edge_at E)) (sym (add-one i))
 
   pub greedy_is_forest : IsForest (kept (edge_at E) (length E))

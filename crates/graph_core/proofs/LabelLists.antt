@@ -22,11 +22,13 @@ labels-at E n v l = get_or-map-range_with_len (label E) 0 n v v 0 l (omega arith
 
 -- with one more edge the labels of its ends are joined
 pub labels-more : (E : List (ℕ × ℕ)) (n i : ℕ) → i < length E → (get_or E i (0, 0)).0 < n → (get_or E i (0, 0)).1 < n →
-    map (merged (get_or (labels (take i E) n) (get_or E i (0, 0)).0 0) (get_or (labels (take i E) n) (get_or E i (0, 0)).1 0)) (labels (take i E) n) ≡ labels (take (i + 1) E) n
+    map (merged (get_or (labels (take i E) n) (get_or E i (0, 0)).0 0) (get_or (labels (take i E) n) (get_or E i (0, 0)).1 0))
+    (labels (take i E) n) ≡ labels (take (i + 1) E) n
 labels-more E n i l a b =
     ap₂ (λ x y. map (merged x y) (labels L n)) (labels-at L n e.0 a) (labels-at L n e.1 b)
     ∙ map-map (merged (label L e.0) (label L e.1)) (label L) (range_with_len 0 n)
-    ∙ map_by (λ w. merged (label L e.0) (label L e.1) (label L w)) (label (L ++ e ∷ [])) (λ w. sym (label-cons e L w) ∙ sym (label-snoc L e w)) (range_with_len 0 n)
+    ∙ map_by (λ w. merged (label L e.0) (label L e.1) (label L w)) (label (L ++ e ∷ []))
+    (λ w. sym (label-cons e L w) ∙ sym (label-snoc L e w)) (range_with_len 0 n)
     ∙ ap (λ K. labels K n) (sym (take_more E i (0, 0) l))
   where
     e : ℕ × ℕ
@@ -35,7 +37,8 @@ labels-more E n i l a b =
     L : List (ℕ × ℕ)
     L = take i E
 
-pub labels-step : (E : List (ℕ × ℕ)) (n i : ℕ) (ls ls' : List ℕ) (e : ℕ × ℕ) → i < length E → e ≡ get_or E i (0, 0) → e.0 < n → e.1 < n → ls ≡ labels (take i E) n →
+pub labels-step : (E : List (ℕ × ℕ)) (n i : ℕ) (ls ls' : List ℕ) (e : ℕ × ℕ) → i < length E → e ≡ get_or E i (0, 0) → e.0 < n → e.1 < n →
+    ls ≡ labels (take i E) n →
     ls' ≡ map (merged (get_or ls e.0 0) (get_or ls e.1 0)) ls → ls' ≡ labels (take (i + 1) E) n
 labels-step E n i ls ls' e l q a b h k =
     k ∙ ap (λ xs. map (merged (get_or xs e.0 0) (get_or xs e.1 0)) xs) h

@@ -20,7 +20,8 @@ some_within [] v w h = absurd (none-some w h)
 some_within (o ∷ T) zero w h = omega arith
 some_within (o ∷ T) (suc v) w h = let l = some_within T v w h in omega arith
 
-unreached-set : (T : List (Option Way)) (q : ℕ) (w : Way) → q < length T → way_at T q ≡ None → suc (unreached (slice_set T q (Some w))) ≡ unreached T
+unreached-set : (T : List (Option Way)) (q : ℕ) (w : Way) → q < length T → way_at T q ≡ None →
+    suc (unreached (slice_set T q (Some w))) ≡ unreached T
 unreached-set [] q w l h = absurd (omega arith)
 unreached-set (None ∷ T) zero w l h = refl
 unreached-set (Some x ∷ T) zero w l h = absurd (none-some x (sym h))
@@ -82,7 +83,8 @@ module _ (ends : ℕ → ℕ × ℕ) (F : List ℕ) (to : ℕ) (T : List (Option
       long = length-set T q (Some more)
 
       low : (v : ℕ) (x : Way) → way_at T' v ≡ Some x → Dec (v ≡ q) → x.steps + unreached T' < length T'
-      low v x k (yes e) = let s = ap (λ (y : Way). y.steps) (same_way T' q more x here (ap (way_at T') (sym e) ∙ k)) in let b = h.short p w at in omega (arith, fewer, long)
+      low v x k (yes e) = let s = ap (λ (y : Way). y.steps) (same_way T' q more x here (ap (way_at T') (sym e) ∙ k)) in
+          let b = h.short p w at in omega (arith, fewer, long)
       low v x k (no n) = let b = h.short v x (sym (other v n) ∙ k) in omega (arith, fewer, long)
 
   reached_not : (v : ℕ) → way_at T v ≡ None → is_reached T v ≡ false
@@ -101,16 +103,20 @@ module _ (ends : ℕ → ℕ × ℕ) (F : List ℕ) (to : ℕ) (T : List (Option
     pub extended_fewer : differ (is_reached T (ends i).0) (is_reached T (ends i).1) ≡ true → unreached (extended T (ends i) i) < unreached T
     extended_fewer = go (way_at T (ends i).0) (way_at T (ends i).1) refl refl
       where
-        go : (a b : Option Way) → way_at T (ends i).0 ≡ a → way_at T (ends i).1 ≡ b → differ (is_some a) (is_some b) ≡ true → unreached (extended_by a b T (ends i) i) < unreached T
+        go : (a b : Option Way) → way_at T (ends i).0 ≡ a → way_at T (ends i).1 ≡ b → differ (is_some a) (is_some b) ≡ true →
+            unreached (extended_by a b T (ends i) i) < unreached T
         go None None p q d = absurd (false≢true d)
-        go None (Some w) p q d = let f = unreached-set T (ends i).0 (record { steps = w.steps + 1; edge = i; next = (ends i).1 }) first p in omega (arith, f)
-        go (Some w) None p q d = let f = unreached-set T (ends i).1 (record { steps = w.steps + 1; edge = i; next = (ends i).0 }) second q in omega (arith, f)
+        go None (Some w) p q d = let f = unreached-set T (ends i).0
+            (record { steps = w.steps + 1; edge = i; next = (ends i).1 }) first p in omega (arith, f)
+        go (Some w) None p q d = let f = unreached-set T (ends i).1
+            (record { steps = w.steps + 1; edge = i; next = (ends i).0 }) second q in omega (arith, f)
         go (Some w) (Some x) p q d = absurd (false≢true d)
 
   pub down : GoDown T
   down v w k = elim (h.each v w k) [ inl s ↦ inl s.1 | inr s ↦ inr (s.after, s.next, s.shorter) ]
 
-pub extended_same : (T : List (Option Way)) (e : ℕ × ℕ) (i : ℕ) → differ (is_reached T e.0) (is_reached T e.1) ≡ false → (extended T e i ≡ T) × (is_reached T e.0 ≡ is_reached T e.1)
+pub extended_same : (T : List (Option Way)) (e : ℕ × ℕ) (i : ℕ) → differ (is_reached T e.0) (is_reached T e.1) ≡ false →
+    (extended T e i ≡ T) × (is_reached T e.0 ≡ is_reached T e.1)
 extended_same T e i = go (way_at T e.0) (way_at T e.1)
   where
     go : (a b : Option Way) → differ (is_some a) (is_some b) ≡ false → (extended_by a b T e i ≡ T) × (is_some a ≡ is_some b)
@@ -131,9 +137,11 @@ length-extended T e i = go (way_at T e.0) (way_at T e.1)
 -- a pass over the edges, of which i are done: what changed since T0
 pub record IsSpread (ends : ℕ → ℕ × ℕ) (F : List ℕ) (T0 T : List (Option Way)) (changed : Bool) (i : ℕ) : Type 0 where
   pub fewer : IsTrue changed → unreached T < unreached T0
-  pub closed : changed ≡ false → (T ≡ T0) × ((k : ℕ) → k < i → is_reached T0 (ends (get_or F k 0)).0 ≡ is_reached T0 (ends (get_or F k 0)).1)
+  pub closed : changed ≡ false → (T ≡ T0) × ((k : ℕ) → k < i →
+      is_reached T0 (ends (get_or F k 0)).0 ≡ is_reached T0 (ends (get_or F k 0)).1)
 
-pub spread_more : (ends : ℕ → ℕ × ℕ) (F : List ℕ) (to : ℕ) (T0 T : List (Option Way)) (changed more : Bool) (i : ℕ) → AreWays ends F to T → i < length F →
+pub spread_more : (ends : ℕ → ℕ × ℕ) (F : List ℕ) (to : ℕ) (T0 T : List (Option Way)) (changed more : Bool) (i : ℕ) →
+    AreWays ends F to T → i < length F →
     (ends (get_or F i 0)).0 < length T → (ends (get_or F i 0)).1 < length T →
     more ≡ differ (is_reached T (ends (get_or F i 0)).0) (is_reached T (ends (get_or F i 0)).1) → IsSpread ends F T0 T changed i →
     IsSpread ends F T0 (extended T (ends (get_or F i 0)) (get_or F i 0)) (changed || more) (i + 1)
@@ -156,10 +164,15 @@ spread_more ends F to T0 T changed more i h l a b m s = go changed more m s.fewe
         IsSpread ends F T0 (extended T (ends e) e) (c || d) (i + 1)
     go true d p f g = record { fewer = λ t. let u = f refl in more_or_same d p u; closed = λ q. absurd (true≢false q) }
       where
-        more_or_same : (d : Bool) → d ≡ differ (is_reached T (ends e).0) (is_reached T (ends e).1) → unreached T < unreached T0 → unreached (extended T (ends e) e) < unreached T0
+        more_or_same : (d : Bool) → d ≡ differ (is_reached T (ends e).0) (is_reached T (ends e).1) → unreached T < unreached T0 →
+            unreached (extended T (ends e) e) < unreached T0
         more_or_same true p u = let v = less (m ∙ sym p) in omega arith
         more_or_same false p u = subst (λ S. unreached S < unreached T0) (sym (same (m ∙ sym p)).0) u
-    go false true p f g = record { fewer = λ t. subst (λ S. unreached (extended T (ends e) e) < unreached S) (g refl).0 (less (m ∙ sym p)); closed = λ q. absurd (true≢false q) }
+    go false true p f g = record {
+      fewer = λ t. subst (λ S. unreached (extended T (ends e) e) < unreached S) (g refl).0
+          (less (m ∙ sym p));
+      closed = λ q. absurd (true≢false q);
+    }
     go false false p f g = let old = g refl in let now = same (m ∙ sym p) in record {
       fewer = λ t. absurd (false≢true t);
       closed = λ q. (now.0 ∙ old.0, below_more _ _ old.1 (subst (λ S. is_reached S (ends e).0 ≡ is_reached S (ends e).1) old.0 now.1));
@@ -175,7 +188,8 @@ unreached-none zero = refl
 unreached-none (suc n) = ap suc (unreached-none n)
 
 -- one vertex alone is reached
-pub first_ways : (ends : ℕ → ℕ × ℕ) (F : List ℕ) (n to : ℕ) → to < n → AreWays ends F to (slice_set (replicate n None) to (Some (record { steps = 0; edge = 0; next = to })))
+pub first_ways : (ends : ℕ → ℕ × ℕ) (F : List ℕ) (n to : ℕ) → to < n →
+    AreWays ends F to (slice_set (replicate n None) to (Some (record { steps = 0; edge = 0; next = to })))
 first_ways ends F n to l = record {
   start = w;
   started = (here, refl);
@@ -226,7 +240,8 @@ record IsWayBack (ends : ℕ → ℕ × ℕ) (F : List ℕ) (to : ℕ) (T : List
   low : (u : ℕ) → In u vertices → (x : Way) × (way_at T u ≡ Some x) × (x.steps < k)
   different : IsDistinct (v ∷ vertices)
 
-way_back : (ends : ℕ → ℕ × ℕ) (F : List ℕ) (to : ℕ) (T : List (Option Way)) → AreWays ends F to T → (k v : ℕ) (w : Way) → way_at T v ≡ Some w → w.steps ≡ k → IsWayBack ends F to T k v
+way_back : (ends : ℕ → ℕ × ℕ) (F : List ℕ) (to : ℕ) (T : List (Option Way)) → AreWays ends F to T → (k v : ℕ) (w : Way) →
+    way_at T v ≡ Some w → w.steps ≡ k → IsWayBack ends F to T k v
 way_back ends F to T h zero v w at q = go (h.each v w at)
   where
     go : ((v ≡ to) × (w.steps ≡ 0)) ⊎ IsStep ends F T v w → IsWayBack ends F to T zero v
@@ -234,7 +249,8 @@ way_back ends F to T h zero v w at q = go (h.each v w at)
     go (inr s) = absurd (let l = s.shorter in omega arith)
 way_back ends F to T h (suc k) v w at q = go (h.each v w at) (λ u x. way_back ends F to T h k u x)
   where
-    go : ((v ≡ to) × (w.steps ≡ 0)) ⊎ IsStep ends F T v w → ((u : ℕ) (x : Way) → way_at T u ≡ Some x → x.steps ≡ k → IsWayBack ends F to T k u) → IsWayBack ends F to T (suc k) v
+    go : ((v ≡ to) × (w.steps ≡ 0)) ⊎ IsStep ends F T v w →
+        ((u : ℕ) (x : Way) → way_at T u ≡ Some x → x.steps ≡ k → IsWayBack ends F to T k u) → IsWayBack ends F to T (suc k) v
     go (inl s) ih = absurd (let l = s.1 in omega arith)
     go (inr s) ih =
         let fewer : s.after.steps ≡ k = let l = s.shorter in omega arith in
@@ -245,18 +261,24 @@ way_back ends F to T h (suc k) v w at q = go (h.each v w at) (λ u x. way_back e
           last = r.last;
           inside = λ e i. inner e (subst (In e) here i) r.inside;
           low = lower r.vertices r.low fewer;
-          different = (λ i. let l = lower r.vertices r.low fewer v i in absurd (let same = ap (λ (y : Way). y.steps) (same_way T v w l.0 at l.1) in let b = l.2 in omega arith), r.different);
+          different = (
+            λ i. let l = lower r.vertices r.low fewer v i in
+                absurd (let same = ap (λ (y : Way). y.steps) (same_way T v w l.0 at l.1) in let b = l.2 in omega arith),
+            r.different,
+          );
         }
       where
         inner : (e : ℕ) → In e (w.edge ∷ back T k w.next) → ((d : ℕ) → In d (back T k w.next) → In d F) → In e F
         inner e (inl p) rest = subst (λ z. In z F) (sym p) s.held
         inner e (inr i) rest = rest e i
 
-        lower : (vs : List ℕ) → ((u : ℕ) → In u vs → (x : Way) × (way_at T u ≡ Some x) × (x.steps < k)) → s.after.steps ≡ k → (u : ℕ) → In u (w.next ∷ vs) → (x : Way) × (way_at T u ≡ Some x) × (x.steps < suc k)
+        lower : (vs : List ℕ) → ((u : ℕ) → In u vs → (x : Way) × (way_at T u ≡ Some x) × (x.steps < k)) → s.after.steps ≡ k → (u : ℕ) →
+            In u (w.next ∷ vs) → (x : Way) × (way_at T u ≡ Some x) × (x.steps < suc k)
         lower vs rest f u (inl p) = (s.after, ap (way_at T) p ∙ s.next, omega arith)
         lower vs rest f u (inr i) = let l = rest u i in (l.0, l.1, omega (arith, l.2))
 
-pub path_back : (ends : ℕ → ℕ × ℕ) (F : List ℕ) (to : ℕ) (T : List (Option Way)) → AreWays ends F to T → (v : ℕ) (w : Way) → way_at T v ≡ Some w → IsPath ends F v to (back T w.steps v)
+pub path_back : (ends : ℕ → ℕ × ℕ) (F : List ℕ) (to : ℕ) (T : List (Option Way)) → AreWays ends F to T → (v : ℕ) (w : Way) →
+    way_at T v ≡ Some w → IsPath ends F v to (back T w.steps v)
 path_back ends F to T h v w at = let r = way_back ends F to T h w.steps v w at refl in record {
   others = r.vertices;
   inside = r.inside;
@@ -266,8 +288,10 @@ path_back ends F to T h v w at = let r = way_back ends F to T h w.steps v w at r
 }
 
 -- one step of the way is written
-pub path_step : (T : List (Option Way)) → GoDown T → (at from i n : ℕ) (path : List ℕ) (w w0 : Way) → way_at T at ≡ Some w0 → w0.steps + i ≡ n → path ++ back T w0.steps at ≡ back T n from → i < n →
-    way_at T at ≡ Some w → (x : Way) × (way_at T w.next ≡ Some x) × (x.steps + (i + 1) ≡ n) × ((path ++ w.edge ∷ []) ++ back T x.steps w.next ≡ back T n from)
+pub path_step : (T : List (Option Way)) → GoDown T → (at from i n : ℕ) (path : List ℕ) (w w0 : Way) → way_at T at ≡ Some w0 →
+    w0.steps + i ≡ n → path ++ back T w0.steps at ≡ back T n from → i < n →
+    way_at T at ≡ Some w → (x : Way) × (way_at T w.next ≡ Some x) × (x.steps + (i + 1) ≡ n) ×
+    ((path ++ w.edge ∷ []) ++ back T x.steps w.next ≡ back T n from)
 path_step T down at from i n path w w0 k0 q h l k = go (down at w k)
   where
     same : w0.steps ≡ w.steps
@@ -278,20 +302,30 @@ path_step T down at from i n path w w0 k0 q h l k = go (down at w k)
     go (inl z) = absurd (omega (arith, same))
     go (inr s) =
         let one : w0.steps ≡ suc s.0.steps = omega (arith, same, s.2) in
-        let here : back T w0.steps at ≡ w.edge ∷ back T s.0.steps w.next = ap (λ m. back T m at) one ∙ ap (λ o. before o (λ u. back T s.0.steps u)) k in
-        (s.0, s.1, omega (arith, same, s.2), append_assoc path (w.edge ∷ []) (back T s.0.steps w.next) ∙ ap (λ es. path ++ es) (sym here) ∙ h)
+        let here : back T w0.steps at ≡ w.edge ∷ back T s.0.steps w.next = ap (λ m. back T m at) one
+        ∙ ap (λ o. before o (λ u. back T s.0.steps u)) k in (
+          s.0,
+          s.1,
+          omega (arith, same, s.2),
+          append_assoc path (w.edge ∷ []) (back T s.0.steps w.next) ∙ ap (λ es. path ++ es) (sym here)
+              ∙ h,
+        )
 
-pub path_end : (T : List (Option Way)) (at from i n : ℕ) (path : List ℕ) (w0 : Way) → w0.steps + i ≡ n → path ++ back T w0.steps at ≡ back T n from → n ≤ i → path ≡ back T n from
+pub path_end : (T : List (Option Way)) (at from i n : ℕ) (path : List ℕ) (w0 : Way) → w0.steps + i ≡ n →
+    path ++ back T w0.steps at ≡ back T n from → n ≤ i → path ≡ back T n from
 path_end T at from i n path w0 q h l = let z : zero ≡ w0.steps = omega arith in sym (append-nil path) ∙ ap (λ m. path ++ back T m at) z ∙ h
 
 -- where each edge has both ends reached or neither, a walk from elsewhere doesn't lead to the start
-pub no_walk : (ends : ℕ → ℕ × ℕ) (F : List ℕ) (to : ℕ) (T : List (Option Way)) → AreWays ends F to T → All (λ e. is_reached T (ends e).0 ≡ is_reached T (ends e).1) F → (from : ℕ) → is_reached T from ≡ false →
+pub no_walk : (ends : ℕ → ℕ × ℕ) (F : List ℕ) (to : ℕ) (T : List (Option Way)) → AreWays ends F to T →
+    All (λ e. is_reached T (ends e).0 ≡ is_reached T (ends e).1) F → (from : ℕ) → is_reached T from ≡ false →
     ¬ (Walk (map ends F) from to)
 no_walk ends F to T h closed from none w =
-    true≢false (sym (ap is_some h.started.0) ∙ sym (connected_invariant (is_reached T) (map ends F) edge from to (connected_of_walk (map ends F) from to w)) ∙ none)
+    true≢false (sym (ap is_some h.started.0) ∙ sym
+    (connected_invariant (is_reached T) (map ends F) edge from to (connected_of_walk (map ends F) from to w)) ∙ none)
   where
     edge : (e : ℕ × ℕ) → In e (map ends F) → is_reached T e.0 ≡ is_reached T e.1
-    edge e i = let r = In_map-from ends e F i in subst (λ d. is_reached T d.0 ≡ is_reached T d.1) (sym r.2) (In-all (λ e. is_reached T (ends e).0 ≡ is_reached T (ends e).1) F closed r.0 r.1)
+    edge e i = let r = In_map-from ends e F i in subst (λ d. is_reached T d.0 ≡ is_reached T d.1) (sym r.2)
+        (In-all (λ e. is_reached T (ends e).0 ≡ is_reached T (ends e).1) F closed r.0 r.1)
 
 pub some_of : {X : Type 0} (o : Option X) → is_some o ≡ true → (x : X) × (o ≡ Some x)
 some_of None h = absurd (true≢false (sym h))

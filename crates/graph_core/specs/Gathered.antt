@@ -1,5 +1,6 @@
 -- Lists put together in the order of numbers: the triangles of a table of neighbours, and the pairs of edges.
-use Rattle.std.specs.Prelude.{ℕ, zero, suc, List, [], ◌∷◌, ◌++◌, Bool, true, false, slice_set, ◌&&◌, ◌||◌, nat_eq, nat_lt, if◌then◌else◌, slice_index_or}
+use Rattle.std.specs.Prelude.{◌<◌, ◌↔◌, IsTrue, ℕ, zero, suc, List, [], ◌∷◌, ◌++◌, Bool, true, false, slice_set, ◌&&◌, ◌||◌, nat_eq, nat_lt, if◌then◌else◌, slice_index_or}
+use Rattle.graph_theory.specs.Walks.{AreAdjacent}
 
 -- the lists of the numbers below n, one after another
 abbrev pub gathered : {X : Type 0} → (ℕ → List X) → ℕ → List X
@@ -9,6 +10,13 @@ gathered f (suc k) = gathered f k ++ f k
 -- whether the table has b in the row of a
 abbrev pub is_marked : List (List Bool) → ℕ → ℕ → Bool
 is_marked rows a b = slice_index_or (slice_index_or rows a []) b false
+
+-- the row has its marks at the neighbours of v
+abbrev pub IsRow : List (ℕ × ℕ) → ℕ → ℕ → List Bool → Type 0
+IsRow E n v row = (b : ℕ) → b < n → IsTrue (slice_index_or row b false) ↔ AreAdjacent E v b
+
+abbrev pub AreRows : List (ℕ × ℕ) → ℕ → List (List Bool) → Type 0
+AreRows E n rows = (a b : ℕ) → a < n → b < n → IsTrue (is_marked rows a b) ↔ AreAdjacent E a b
 
 -- with marks at the other ends of the edge, where it has the vertex as an end
 abbrev pub marked_by : List Bool → ℕ × ℕ → ℕ → List Bool

@@ -1,5 +1,5 @@
 -- The search from a vertex along the edges of a forest: for each vertex the way back, where it is reached.
-use Rattle.std.specs.Prelude.{◌≡◌, ℕ, zero, suc, ◌+◌, ◌<◌, ◌⊎◌, List, [], ◌∷◌, Bool, true, false, not, Option, Some, None, is_some, length, slice_set, slice_index_or}
+use Rattle.std.specs.Prelude.{◌≡◌, ℕ, zero, suc, ◌+◌, ◌<◌, ◌⊎◌, List, [], ◌∷◌, Bool, true, false, not, Option, Some, None, is_some, All, length, slice_set, slice_index_or}
 use Rattle.std.specs.List.{filter}
 use Rattle.vector_spaces.proofs.Members.{In}
 use Rattle.graph_core.specs.declared.ways.Way.{Way}
@@ -28,6 +28,10 @@ pub record AreWays (ends : ℕ → ℕ × ℕ) (F : List ℕ) (to : ℕ) (T : Li
   pub started : (way_at T to ≡ Some start) × (start.steps ≡ 0)
   pub each : (v : ℕ) (w : Way) → way_at T v ≡ Some w → ((v ≡ to) × (w.steps ≡ 0)) ⊎ IsStep ends F T v w
   pub short : (v : ℕ) (w : Way) → way_at T v ≡ Some w → w.steps + unreached T < length T
+
+-- each edge of F has both ends reached, or neither
+abbrev pub AreClosed : (ℕ → ℕ × ℕ) → List ℕ → List (Option Way) → Type 0
+AreClosed ends F T = All (λ e. is_reached T (ends e).0 ≡ is_reached T (ends e).1) F
 
 -- each way is a step to a way that is one shorter, or has no step
 abbrev pub GoDown : List (Option Way) → Type 0

@@ -1,9 +1,8 @@
 //! The pairs of edges with a common end.
 
-ghost use Rattle.std.specs.Prelude.{◌≡◌, ◌<◌, ℕ, ◌↔◌, [], ◌∷◌, ◌++◌, IfOk, OnOk, length};
-ghost use Rattle.std.specs.List.{Contains, AllPairs};
+ghost use Rattle.std.specs.Prelude.{◌≡◌, ◌<◌, [], ◌∷◌, ◌++◌, IfOk, OnOk, length};
 ghost use Rattle.graph_theory.specs.Walks.{edge_at};
-ghost use Rattle.graph_core.specs.Adjacency.{HaveCommonEnd, IsPairBefore};
+ghost use Rattle.graph_core.specs.Adjacency.{AreAdjacentPairs};
 ghost use Rattle.graph_core.specs.Gathered.{pair_by, pairs_at, meets};
 
 use crate::{EdgePairs, Graph};
@@ -12,8 +11,7 @@ use std::alloc::{AllocError, Global};
 impl Graph {
     /// All pairs of different edges with a common end, the smaller number first, in lexicographic order.
     pub fn adjacent_pairs(&self, alloc: Global) -> Result<EdgePairs, AllocError>
-        ensures members { IfOk result (λ found. (p : ℕ × ℕ) → Contains found p ↔ ((p.0 < p.1) × (p.1 < length self.now.ends) × HaveCommonEnd (edge_at self.now.ends p.0) (edge_at self.now.ends p.1))) }
-        ensures order { IfOk result (λ found. AllPairs IsPairBefore found) }
+        ensures { IfOk result (AreAdjacentPairs self.now.ends) }
     {
         let mut found = EdgePairs::new(alloc);
         for first in 0..self.edges() {

@@ -1,10 +1,9 @@
 //! Components, and the spanning forest that is found edge by edge.
 
 ghost use Rattle.std.specs.Prelude.{◌≡◌, ◌≢◌, ◌<◌, ℕ, ◌↔◌, [], ◌∷◌, ◌++◌, IfOk, OnOk, IsTrue, All, map, length, slice_index, nat_eq, if◌then◌else◌};
-ghost use Rattle.graph_theory.specs.Labels.{merged};
 ghost use Rattle.graph_theory.specs.Walks.{Walk, IsLeastConnected, IsForest};
 ghost use Rattle.graph_theory.specs.Walks.{edge_at};
-ghost use Rattle.graph_core.specs.LabelLists.{labels};
+ghost use Rattle.graph_core.specs.LabelLists.{labels, joined, where_apart};
 ghost use Rattle.graph_theory.specs.Greedy.{IsGreedyForest};
 
 use crate::{EdgeList, Graph, VertexList};
@@ -49,8 +48,8 @@ fn keep(
 ) -> Result<(), AllocError>
     requires edge { edge < length graph.now.ends }
     requires count { length labels.old.items ≡ length graph.now.names }
-    ensures joined { let e = edge_at graph.now.ends edge in OnOk result (labels.new.items ≡ map (merged (slice_index labels.old.items e.0) (slice_index labels.old.items e.1)) labels.old.items) }
-    ensures kept { let e = edge_at graph.now.ends edge in OnOk result (kept.new ≡ kept.old ++ (if nat_eq (slice_index labels.old.items e.0) (slice_index labels.old.items e.1) then [] else edge ∷ [])) }
+    ensures joined { OnOk result (labels.new.items ≡ joined labels.old.items (edge_at graph.now.ends edge)) }
+    ensures kept { OnOk result (kept.new ≡ kept.old ++ where_apart labels.old.items (edge_at graph.now.ends edge) edge) }
 {
     let (first, second) = graph.ends(edge);
     if join(labels, first, second) {
@@ -74,7 +73,7 @@ fn own_labels(alloc: Global, vertices: usize) -> Result<Vec<usize>, AllocError>
 fn join(labels: &mut Vec<usize>, first: usize, second: usize) -> bool
     requires first_vertex { first < length labels.old.items }
     requires second_vertex { second < length labels.old.items }
-    ensures joined { labels.new.items ≡ map (merged (slice_index labels.old.items first) (slice_index labels.old.items second)) labels.old.items }
+    ensures joined { labels.new.items ≡ joined labels.old.items (first, second) }
     ensures differ { IsTrue result ↔ (slice_index labels.old.items first ≢ slice_index labels.old.items second) }
 {
     let (a, b) = (labels[first], labels[second]);

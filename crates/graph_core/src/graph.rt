@@ -2,7 +2,7 @@
 
 ghost use Rattle.std.specs.Prelude.{◌≡◌, ◌<◌, ◌≤◌, ◌^◌, [], ◌∷◌, ◌++◌, None, Some, IfSome, IfNone, IfOk, OnOk, OnErr, length, slice_get, slice_set, slice_index_or};
 ghost use Rattle.std.specs.List.{Contains};
-ghost use Rattle.graph_core.specs.NamedGraphs.{IsNamedGraph};
+ghost use Rattle.graph_core.specs.NamedGraphs.{IsNamedGraph, with_vertex};
 ghost use Rattle.graph_theory.specs.Walks.{edge_at};
 
 use indexmap::IndexMap;
@@ -55,7 +55,7 @@ impl Graph {
         ensures named { IfOk result (λ v. slice_get self.new.names v ≡ Some name.now) }
         ensures within { IfOk result (λ v. v < length self.new.names) }
         ensures known { Contains self.old.names name.now → self.new ≡ self.old }
-        ensures added { ¬ (Contains self.old.names name.now) → OnOk result (self.new ≡ record self.old { names = self.old.names ++ name.now ∷ []; classes = self.old.classes ++ None ∷ [] }) }
+        ensures added { ¬ (Contains self.old.names name.now) → OnOk result (self.new ≡ with_vertex self.old name.now) }
         ensures more { length self.old.names ≤ length self.new.names }
         ensures err { OnErr result (self.new ≡ self.old) }
         ensures absent { OnErr result (¬ (Contains self.old.names name.now)) }
@@ -78,7 +78,7 @@ impl Graph {
     fn add(&mut self, name: &[u8]) -> Result<usize, AllocError>
         requires { ¬ (Contains self.old.names name.now) }
         ensures last { IfOk result (λ v. v ≡ length self.old.names) }
-        ensures added { OnOk result (self.new ≡ record self.old { names = self.old.names ++ name.now ∷ []; classes = self.old.classes ++ None ∷ [] }) }
+        ensures added { OnOk result (self.new ≡ with_vertex self.old name.now) }
         ensures err { OnErr result (self.new ≡ self.old) }
     {
         let number = self.vertices.len();

@@ -1,8 +1,7 @@
 //! A table of neighbours.
 
-ghost use Rattle.std.specs.Prelude.{◌≡◌, ◌<◌, ℕ, ◌↔◌, [], ◌∷◌, ◌++◌, IfOk, All, IsTrue, length, slice_index_or, false};
-ghost use Rattle.graph_theory.specs.Walks.{AreAdjacent};
-ghost use Rattle.graph_core.specs.Gathered.{is_marked, marked_by};
+ghost use Rattle.std.specs.Prelude.{◌≡◌, ◌<◌, [], ◌∷◌, ◌++◌, IfOk, All, length, slice_index_or};
+ghost use Rattle.graph_core.specs.Gathered.{is_marked, marked_by, IsRow, AreRows};
 
 use crate::Graph;
 use std::alloc::{AllocError, Global};
@@ -41,7 +40,7 @@ impl Neighbours {
     pub(crate) fn of(alloc: Global, graph: &Graph) -> Result<Neighbours, AllocError>
         ensures count { IfOk result (λ rows. length rows ≡ length graph.now.names) }
         ensures square { IfOk result (λ rows. All (λ row. length row ≡ length graph.now.names) rows) }
-        ensures marks { IfOk result (λ rows. (a b : ℕ) → a < length graph.now.names → b < length graph.now.names → IsTrue (is_marked rows a b) ↔ AreAdjacent graph.now.ends a b) }
+        ensures marks { IfOk result (AreRows graph.now.ends (length graph.now.names)) }
     {
         let mut rows = Vec::new(alloc);
         for vertex in 0..graph.vertices() {
@@ -70,7 +69,7 @@ impl Neighbours {
 /// The marks at the neighbours of a vertex.
 fn neighbours_of(alloc: Global, graph: &Graph, vertex: usize) -> Result<Row, AllocError>
     ensures count { IfOk result (λ row. length row ≡ length graph.now.names) }
-    ensures marks { IfOk result (λ row. (b : ℕ) → b < length graph.now.names → IsTrue (slice_index_or row b false) ↔ AreAdjacent graph.now.ends vertex b) }
+    ensures marks { IfOk result (IsRow graph.now.ends (length graph.now.names) vertex) }
 {
     let mut marks = Vec::from_elem(alloc, false, graph.vertices())?;
     for edge in 0..graph.edges() {

@@ -1,9 +1,9 @@
 //! Paths in a forest.
 
-ghost use Rattle.std.specs.Prelude.{◌≡◌, ◌<◌, ◌↔◌, ℕ, List, None, IfOk, map, IfSome, All, length};
+ghost use Rattle.std.specs.Prelude.{◌≡◌, ◌<◌, ◌↔◌, None, IfOk, map, IfSome, All, length};
 ghost use Rattle.graph_theory.specs.Walks.{Walk, IsForest};
 ghost use Rattle.graph_theory.specs.Walks.{edge_at};
-ghost use Rattle.graph_theory.specs.Paths.{IsPath};
+ghost use Rattle.graph_core.specs.OnlyPaths.{IsOnlyPath};
 
 use crate::ways::Ways;
 use crate::{EdgeList, Graph};
@@ -22,8 +22,7 @@ impl Graph {
         requires forest { IsForest (map (edge_at self.now.ends) forest.now) }
         requires from_vertex { from < length self.now.names }
         requires to_vertex { to < length self.now.names }
-        ensures path { IfOk result (λ found. IfSome found (λ path. IsPath (edge_at self.now.ends) forest.now from to path)) }
-        ensures only { IfOk result (λ found. IfSome found (λ path. (other : List ℕ) → IsPath (edge_at self.now.ends) forest.now from to other → other ≡ path)) }
+        ensures path { IfOk result (λ found. IfSome found (IsOnlyPath (edge_at self.now.ends) forest.now from to)) }
         ensures none { IfOk result (λ found. (found ≡ None) ↔ ¬ (Walk (map (edge_at self.now.ends) forest.now) from to)) }
     {
         let mut ways = Ways::new(alloc, self.vertices(), to)?;

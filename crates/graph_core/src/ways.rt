@@ -2,7 +2,7 @@
 
 ghost use Rattle.std.specs.Prelude.{◌≡◌, ◌+◌, ◌<◌, ℕ, List, IfOk, IsTrue, Some, All, false, length};
 ghost use Rattle.graph_theory.specs.Walks.{edge_at};
-ghost use Rattle.graph_core.specs.Ways.{AreWays, GoDown, way_at, is_reached, unreached, extended, differ, back};
+ghost use Rattle.graph_core.specs.Ways.{AreWays, AreClosed, GoDown, way_at, is_reached, unreached, extended, differ, back};
 
 use crate::{EdgeList, Graph};
 use std::alloc::{AllocError, Global};
@@ -50,7 +50,7 @@ impl Ways {
         ensures vertex { self.new.to ≡ self.old.to }
         ensures count { length self.new.table.items ≡ length self.old.table.items }
         ensures ways { AreWays (edge_at graph.now.ends) forest.now self.new.to self.new.table.items }
-        ensures closed { All (λ e. is_reached self.new.table.items (edge_at graph.now.ends e).0 ≡ is_reached self.new.table.items (edge_at graph.now.ends e).1) forest.now }
+        ensures closed { AreClosed (edge_at graph.now.ends) forest.now self.new.table.items }
     {
         while self.spread(graph, forest) {}
     }
@@ -64,7 +64,7 @@ impl Ways {
         ensures count { length self.new.table.items ≡ length self.old.table.items }
         ensures ways { AreWays (edge_at graph.now.ends) forest.now self.new.to self.new.table.items }
         ensures fewer { IsTrue result → unreached self.new.table.items < unreached self.old.table.items }
-        ensures closed { result ≡ false → All (λ e. is_reached self.new.table.items (edge_at graph.now.ends e).0 ≡ is_reached self.new.table.items (edge_at graph.now.ends e).1) forest.now }
+        ensures closed { result ≡ false → AreClosed (edge_at graph.now.ends) forest.now self.new.table.items }
     {
         let mut changed = false;
         for i in 0..forest.len() {

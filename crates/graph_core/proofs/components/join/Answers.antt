@@ -13,4 +13,5 @@ second c = c.index-2.ensures ∙ get_or_default_zero c.args.labels.now.items c.a
 pub returns-clause-joined : goal.returns-clause-joined
 unfolding merged
 returns-clause-joined c =
-    c.replace.ensures ∙ ap₂ (λ f t. map (λ x. cond (nat_eq x f) t x) c.args.labels.now.items) (c.max.ensures ∙ ap₂ max (first c) (second c)) (c.min.ensures ∙ ap₂ min (first c) (second c))
+    c.replace.ensures ∙ ap₂ (λ f t. map (λ x. cond (nat_eq x f) t x) c.args.labels.now.items)
+    (c.max.ensures ∙ ap₂ max (first c) (second c)) (c.min.ensures ∙ ap₂ min (first c) (second c))

@@ -4,6 +4,7 @@ use Rattle.graph_core.proofs.components.replace.Given as goal
 
 abbrev pub invariant-loop-label : goal.invariant-loop-label
 invariant-loop-label l = record {
-  done : (k : ℕ) → k < l.label-index → get_or l.label-items k 0 ≡ (if nat_eq (get_or l.fn.labels.items k 0) l.from then l.to else get_or l.fn.labels.items k 0);
+  done : (k : ℕ) → k < l.label-index → get_or l.label-items k 0 ≡
+      (if nat_eq (get_or l.fn.labels.items k 0) l.from then l.to else get_or l.fn.labels.items k 0);
   rest : (k : ℕ) → l.label-index ≤ k → get_or l.label-items k 0 ≡ get_or l.fn.labels.items k 0;
 }

@@ -13,5 +13,6 @@ loop-edge-preserved c =
     let marks = c.loop-edge.marks.items in
     let same = c.mark.ensures ∙ ap (λ e. marked_by marks e v) c.ends.ensures.value in record {
       long = ap length same ∙ length-marked_by marks (get_or E i (0, 0)) v ∙ c.loop-edge.invariant.long;
-      marked = λ b l. subst (λ (xs : _). IsTrue (get_or xs b false) ↔ AreAdjacent (take (i + 1) E) v b) (sym same) (marked_more E i v b marks (omega arith) (omega arith) (c.loop-edge.invariant.marked b l));
+      marked = λ b l. subst (λ (xs : _). IsTrue (get_or xs b false) ↔ AreAdjacent (take (i + 1) E) v b) (sym same)
+          (marked_more E i v b marks (omega arith) (omega arith) (c.loop-edge.invariant.marked b l));
     }

@@ -18,6 +18,7 @@ pub returns-clause-missing : goal.returns-clause-missing
 returns-clause-missing c = go c.get_index_of.result refl
   where
     go : (r : Option ℕ) → c.get_index_of.result ≡ r → IfNone r (¬ (Contains c.args.self.now.names c.args.name.now))
-    go None e = λ there. name_missed (λ k. k.items) c.args.name.now c.self.inside.vertices.entries (sym c.get_index_of.ensures.found ∙ ap is_some e)
+    go None e = λ there. name_missed (λ k. k.items) c.args.name.now c.self.inside.vertices.entries
+        (sym c.get_index_of.ensures.found ∙ ap is_some e)
         (In-contains _ c.args.name.now (subst (λ (g : NamedGraph). Contains g.names c.args.name.now) (sym c.self.view_is) there))
     go (Some v) e = tt

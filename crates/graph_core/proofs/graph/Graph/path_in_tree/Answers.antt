@@ -11,8 +11,12 @@ use Rattle.graph_core.proofs.graph.Graph.path_in_tree.Goals as goal
 pub returns-then-not-reaches-clause-none : goal.returns-then-not-reaches-clause-none
 returns-then-not-reaches-clause-none c =
     let T = c.fill.new.self.table.items in
-    let ways = subst (λ t. AreWays (edge_at c.args.self.now.ends) c.args.forest.now t T) (c.fill.ensures.vertex ∙ c.in_ok-ways.ensures.vertex) c.fill.ensures.ways in
-    (λ _. no_walk (edge_at c.args.self.now.ends) c.args.forest.now c.args.to T ways c.fill.ensures.closed c.args.from (sym c.if-not-reaches.ensures), λ _. refl)
+    let ways = subst (λ t. AreWays (edge_at c.args.self.now.ends) c.args.forest.now t T)
+    (c.fill.ensures.vertex ∙ c.in_ok-ways.ensures.vertex) c.fill.ensures.ways in (
+      λ _. no_walk (edge_at c.args.self.now.ends) c.args.forest.now c.args.to T ways c.fill.ensures.closed c.args.from
+          (sym c.if-not-reaches.ensures),
+      λ _. refl,
+    )
 
 pub path-requires-clause-down : goal.path-requires-clause-down
 path-requires-clause-down c = down (edge_at c.args.self.now.ends) c.args.forest.now c.fill.new.self.to c.fill.new.self.table.items c.fill.ensures.ways
@@ -27,15 +31,16 @@ path c =
     (subst (IsPath ends c.args.forest.now c.args.from c.fill.new.self.to) (sym (c.in_ok-path.ensures way.0 way.1)) back)
 
 pub returns-clause-path : goal.returns-clause-path
-returns-clause-path c = path c
-
-pub returns-clause-only : goal.returns-clause-only
-returns-clause-only c other h =
+returns-clause-path c =
     let ends = edge_at c.args.self.now.ends in
-    path_is_only ends c.args.forest.now (grown_of_forest (map ends c.args.forest.now) c.requires.forest) c.args.from c.args.to other c.in_ok-path.path h (path c)
+    let grown = grown_of_forest (map ends c.args.forest.now) c.requires.forest in record {
+      path = path c;
+      only = λ other h. path_is_only ends c.args.forest.now grown c.args.from c.args.to other c.in_ok-path.path h (path c);
+    }
 
 pub returns-clause-none : goal.returns-clause-none
 returns-clause-none c =
     let ends = edge_at c.args.self.now.ends in
-    let walk = walk_of_connected (map ends c.args.forest.now) c.args.from c.args.to (path_connected ends c.args.forest.now c.args.from c.args.to c.in_ok-path.path (path c)) in
+    let walk = walk_of_connected (map ends c.args.forest.now) c.args.from c.args.to
+    (path_connected ends c.args.forest.now c.args.from c.args.to c.in_ok-path.path (path c)) in
     (λ e. absurd (none-some c.in_ok-path.path (sym e)), λ n. absurd (n walk))

@@ -7,13 +7,16 @@ use Rattle.graph_core.proofs.graph.Graph.triangles.Goals as goal
 abbrev of_rows : List (List Bool) → ℕ → List (List ℕ)
 of_rows rows n = gathered (triangles_at rows n) n
 
-whole : (c : goal.After-drop-neighbours-inside-2) → of_rows c.in_ok-neighbours.neighbours (length c.args.self.now.names) ≡ c.loop-first.found
+whole : (c : goal.After-drop-neighbours-inside-2) →
+    of_rows c.in_ok-neighbours.neighbours (length c.args.self.now.names) ≡ c.loop-first.found
 whole c =
     let count = c.in_ok-neighbours.ensures.count in
     let rows = c.in_ok-neighbours.neighbours in
     let end : length c.args.self.now.names ≡ c.loop-first.first = omega arith in
-    ap (λ n. gathered (triangles_at rows n) (length c.args.self.now.names)) (sym count) ∙ ap (gathered (triangles_at rows (length rows))) end
-    ∙ subst (λ rs. gathered (triangles_at rs (length rs)) c.loop-first.first ≡ c.loop-first.found) c.neighbours.view_is (sym c.loop-first.invariant)
+    ap (λ n. gathered (triangles_at rows n) (length c.args.self.now.names)) (sym count)
+    ∙ ap (gathered (triangles_at rows (length rows))) end
+    ∙ subst (λ rs. gathered (triangles_at rs (length rs)) c.loop-first.first ≡ c.loop-first.found) c.neighbours.view_is
+    (sym c.loop-first.invariant)
 
 pub returns : goal.returns
 returns c = subst (AreTriangleLists c.args.self.now.ends) (whole c)

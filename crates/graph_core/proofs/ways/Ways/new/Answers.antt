@@ -7,5 +7,6 @@ use Rattle.graph_core.proofs.ways.Ways.new.Goals as goal
 pub returns-clause-ways : goal.returns-clause-ways
 returns-clause-ways c ends F =
     let end : c.loop-vertex._vertex ≡ c.args.vertices = omega arith in
-    subst (λ T. AreWays ends F c.args.to (slice_set T c.args.to (Some (record { steps = 0; edge = 0; next = c.args.to })))) (sym (c.loop-vertex.invariant ∙ ap (λ n. replicate n None) end))
+    subst (λ T. AreWays ends F c.args.to (slice_set T c.args.to (Some (record { steps = 0; edge = 0; next = c.args.to }))))
+    (sym (c.loop-vertex.invariant ∙ ap (λ n. replicate n None) end))
     (first_ways ends F c.args.vertices c.args.to c.requires)

@@ -6,7 +6,13 @@ use Rattle.graph_core.proofs.Searches.{same_way, path_step, path_end}
 use Rattle.graph_core.proofs.ways.Ways.path.Goals as goal
 
 pub loop-step-init : goal.loop-step-init
-loop-step-init c = (c.way-step-end.result, c.way-step-end.ensures, omega arith, ap (λ xs. xs ++ back c.args.self.now.table.items c.way-step-end.result.steps c.args.from) c.new-path.ensures)
+loop-step-init c = (
+  c.way-step-end.result,
+  c.way-step-end.ensures,
+  omega arith,
+  ap
+      (λ xs. xs ++ back c.args.self.now.table.items c.way-step-end.result.steps c.args.from) c.new-path.ensures,
+)
 
 pub way-way-requires : goal.way-way-requires
 way-way-requires c = ap is_some c.loop-step.invariant.1
