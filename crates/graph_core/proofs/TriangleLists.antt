@@ -117,4 +117,8 @@ module _ (rows : List (List Bool)) (n : ℕ) where
         (inl refl)))))
 
     pub triangle_lists : AreTriangleLists E (gathered (triangles_at rows n) n)
-    triangle_lists = record { triples = triples; triangles = record { each = is_triangle; all = triangle_in; ordered = in_order }; corners_of = as_corners }
+    triangle_lists = record {
+      triples = triples;
+      triangles = record { each = is_triangle; all = triangle_in; ordered = in_order };
+      corners_of = as_corners;
+    }

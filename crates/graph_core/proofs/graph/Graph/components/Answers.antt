@@ -16,7 +16,8 @@ join-requires-clause-second_vertex c = let n = labels-length (take c.loop-edge.e
 
 pub loop-edge-preserved : goal.loop-edge-preserved
 loop-edge-preserved c =
-    labels-step c.args.self.now.ends (length c.args.self.now.names) c.loop-edge.edge c.loop-edge.labels.items c.join.new.labels.items c.ends-first.result (omega arith) c.ends-first.ensures.value
+    labels-step c.args.self.now.ends (length c.args.self.now.names) c.loop-edge.edge c.loop-edge.labels.items c.join.new.labels.items
+    c.ends-first.result (omega arith) c.ends-first.ensures.value
     c.ends-first.ensures.first_vertex c.ends-first.ensures.second_vertex c.loop-edge.invariant c.join.ensures.joined
 
 whole : (c : goal.After-of) → c.of.result ≡ labels c.args.self.now.ends (length c.args.self.now.names)

@@ -20,4 +20,5 @@ whole c =
 
 pub returns : goal.returns
 returns c = subst (AreTriangleLists c.args.self.now.ends) (whole c)
-    (triangle_lists c.in_ok-neighbours.neighbours (length c.args.self.now.names) c.args.self.now.ends c.vertices-first-end.ensures.graph.within c.in_ok-neighbours.ensures.marks)
+    (triangle_lists c.in_ok-neighbours.neighbours (length c.args.self.now.names) c.args.self.now.ends
+    c.vertices-first-end.ensures.graph.within c.in_ok-neighbours.ensures.marks)

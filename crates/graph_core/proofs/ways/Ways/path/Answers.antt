@@ -21,7 +21,8 @@ pub loop-step-preserved : goal.loop-step-preserved
 loop-step-preserved c =
     let v = c.loop-step.invariant in
     let T = c.args.self.now.table.items in
-    let r = path_step T c.requires.down c.loop-step.at c.args.from c.loop-step._step c.way-step-end.result.steps c.loop-step.path c.way-way.result v.0 v.1 v.2 v.3 c.loop-step-test.true c.way-way.ensures in
+    let r = path_step T c.requires.down c.loop-step.at c.args.from c.loop-step._step c.way-step-end.result.steps c.loop-step.path
+    c.way-way.result v.0 v.1 v.2 v.3 c.loop-step-test.true c.way-way.ensures in
     (r.0, r.1, r.2, ap (λ es. es ++ back T r.0.steps c.way-way.result.next) c.in_ok-push.ensures.ok ∙ r.3)
 
 pub returns : goal.returns

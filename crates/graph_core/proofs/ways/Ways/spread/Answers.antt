@@ -27,7 +27,8 @@ loop-i-preserved c =
           (subst (AreWays ends F c.loop-i.self.to) (sym new)
           (extended_ways ends F c.loop-i.self.to T c.loop-i.invariant.ways (get_or F i 0) (In-get_or F i 0 within) first second));
       spread = subst (λ S. IsSpread ends F c.args.self.now.table.items S (c.loop-i.changed || c.extend-more.result) (i + 1)) (sym new)
-          (spread_more ends F c.loop-i.self.to c.args.self.now.table.items T c.loop-i.changed c.extend-more.result i c.loop-i.invariant.ways within first second more c.loop-i.invariant.spread);
+          (spread_more ends F c.loop-i.self.to c.args.self.now.table.items T c.loop-i.changed c.extend-more.result i
+          c.loop-i.invariant.ways within first second more c.loop-i.invariant.spread);
     }
 
 pub returns-clause-closed : goal.returns-clause-closed
