@@ -21,7 +21,7 @@ pub labels-at : (E : List (ℕ × ℕ)) (n v : ℕ) → v < n → get_or (labels
 labels-at E n v l = get_or-map-range_with_len (label E) 0 n v v 0 l (omega arith)
 
 -- with one more edge the labels of its ends are joined
-pub labels-more : (E : List (ℕ × ℕ)) (n i : ℕ) → i < length E → (get_or E i (0, 0)).0 < n → (get_or E i (0, 0)).1 < n →
+labels-more : (E : List (ℕ × ℕ)) (n i : ℕ) → i < length E → (get_or E i (0, 0)).0 < n → (get_or E i (0, 0)).1 < n →
     map (merged (get_or (labels (take i E) n) (get_or E i (0, 0)).0 0) (get_or (labels (take i E) n) (get_or E i (0, 0)).1 0))
     (labels (take i E) n) ≡ labels (take (i + 1) E) n
 labels-more E n i l a b =

@@ -15,11 +15,6 @@ use Rattle.graph_theory.proofs.Walks.{connected_of_walk}
 use Rattle.graph_theory.proofs.Labels.{connected_invariant}
 use Rattle.graph_core.specs.Ways.{way_at, is_reached, unreached, IsStep, AreWays, GoDown, extended_by, extended, differ, back, before}
 
-pub some_within : (T : List (Option Way)) (v : ℕ) (w : Way) → way_at T v ≡ Some w → v < length T
-some_within [] v w h = absurd (none-some w h)
-some_within (o ∷ T) zero w h = omega arith
-some_within (o ∷ T) (suc v) w h = let l = some_within T v w h in omega arith
-
 unreached-set : (T : List (Option Way)) (q : ℕ) (w : Way) → q < length T → way_at T q ≡ None →
     suc (unreached (slice_set T q (Some w))) ≡ unreached T
 unreached-set [] q w l h = absurd (omega arith)
@@ -87,9 +82,6 @@ module _ (ends : ℕ → ℕ × ℕ) (F : List ℕ) (to : ℕ) (T : List (Option
           let b = h.short p w at in omega (arith, fewer, long)
       low v x k (no n) = let b = h.short v x (sym (other v n) ∙ k) in omega (arith, fewer, long)
 
-  reached_not : (v : ℕ) → way_at T v ≡ None → is_reached T v ≡ false
-  reached_not v e = ap is_some e
-
   module _ (i : ℕ) (held : In i F) (first : (ends i).0 < length T) (second : (ends i).1 < length T) where
     pub extended_ways : AreWays ends F to (extended T (ends i) i)
     extended_ways = go (way_at T (ends i).0) (way_at T (ends i).1) refl refl
@@ -100,7 +92,7 @@ module _ (ends : ℕ → ℕ × ℕ) (F : List ℕ) (to : ℕ) (T : List (Option
         go (Some w) None p q = reach (ends i).0 (ends i).1 i w held (inr refl) p q second
         go (Some w) (Some x) p q = h
 
-    pub extended_fewer : differ (is_reached T (ends i).0) (is_reached T (ends i).1) ≡ true → unreached (extended T (ends i) i) < unreached T
+    extended_fewer : differ (is_reached T (ends i).0) (is_reached T (ends i).1) ≡ true → unreached (extended T (ends i) i) < unreached T
     extended_fewer = go (way_at T (ends i).0) (way_at T (ends i).1) refl refl
       where
         go : (a b : Option Way) → way_at T (ends i).0 ≡ a → way_at T (ends i).1 ≡ b → differ (is_some a) (is_some b) ≡ true →
@@ -115,7 +107,7 @@ module _ (ends : ℕ → ℕ × ℕ) (F : List ℕ) (to : ℕ) (T : List (Option
   pub down : GoDown T
   down v w k = elim (h.each v w k) [ inl s ↦ inl s.1 | inr s ↦ inr (s.after, s.next, s.shorter) ]
 
-pub extended_same : (T : List (Option Way)) (e : ℕ × ℕ) (i : ℕ) → differ (is_reached T e.0) (is_reached T e.1) ≡ false →
+extended_same : (T : List (Option Way)) (e : ℕ × ℕ) (i : ℕ) → differ (is_reached T e.0) (is_reached T e.1) ≡ false →
     (extended T e i ≡ T) × (is_reached T e.0 ≡ is_reached T e.1)
 extended_same T e i = go (way_at T e.0) (way_at T e.1)
   where
