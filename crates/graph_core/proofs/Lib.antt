@@ -1,0 +1,8 @@
+mod Entries
+mod Gathered
+mod Marks
+mod TriangleLists
+mod PairLists
+mod LabelLists
+mod GreedyForests
+mod Searches
