@@ -1,0 +1,4 @@
+pub mod Sequence
+pub mod GeneratedProblems
+pub mod Coordinates
+pub mod TakenLines
