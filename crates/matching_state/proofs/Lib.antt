@@ -3,7 +3,8 @@ pub mod Residues
 mod Ratios
 mod FoundSupports
 mod Findings
-mod Tips
+pub mod Tips
+pub mod TipsOfTuples
 pub mod Products
 pub mod PairSearch
 pub mod StepSets

@@ -36,7 +36,7 @@ module _ (S : Scalars) (F : IsField S) (p : ParityProblem) (P : IsProblem S p) (
   exposed_by tip cs outer t o = exposed_ranks S F p P M e i h (exposed_of_tip sp line M e (tuple S F p.dimension tip) (tuple S F p.dimension outer) (pairs S F cs) (exposed_of S F p P M e tip cs outer i h t o))
 
   -- an exposed line has an outer
-  outer_of : IsExposed S p M e → (outer : List ℕ) × IsOuter S p M e outer
+  pub outer_of : IsExposed S p M e → (outer : List ℕ) × IsOuter S p M e outer
   outer_of x =
       let r = tip_of_exposed sp line M e (ranks_exposed S F p P M e i h x) in
       let outer : List ℕ = list S p.dimension r.1 in

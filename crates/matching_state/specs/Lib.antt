@@ -2,6 +2,7 @@ pub mod Chosen
 pub mod Bases
 pub mod Supports
 pub mod Places
+pub mod Missing
 pub mod Exposures
 pub mod Steps
 pub mod Pairs

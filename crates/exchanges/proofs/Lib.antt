@@ -1,0 +1,13 @@
+pub mod SpansOfLines
+pub mod SwappedSets
+pub mod NoRelation
+pub mod GrownByRows
+pub mod LinesPassed
+pub mod OffersOfLines
+pub mod SameSpan
+pub mod LargerSets
+pub mod ReachedSets
+pub mod SettledSets
+pub mod Distances
+pub mod LinesReached
+pub mod TransitiveMissing

@@ -1,0 +1,4 @@
+pub mod Exchanges
+pub mod Spans
+pub mod Offers
+pub mod Steps
