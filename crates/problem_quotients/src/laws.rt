@@ -1,7 +1,8 @@
 //! What holds of a problem and of the problem modulo a point, as clauses of functions that do nothing.
 
-ghost use Rattle.std.specs.Prelude.{◌≡◌, ◌≢◌, ◌<◌, ◌↔◌, ◌∷◌, [], ℕ, suc, List, length};
+ghost use Rattle.std.specs.Prelude.{◌≡◌, ◌≢◌, ◌↔◌, ◌∷◌, [], ℕ, suc, List, length};
 ghost use Rattle.std.specs.List.{Contains};
+ghost use Rattle.std.specs.List.Sorted.{IsStrictlyIncreasing};
 ghost use Rattle.field_core.specs.Matrix.{Matrix};
 ghost use Rattle.linear_algebra.specs.Scalars.{Scalars, IsField};
 ghost use Rattle.linear_algebra.specs.Spans.{Combines};
@@ -27,7 +28,7 @@ pub fn sets_lose_a_line_modulo_the_point()
         → IsIndependentSet S p M → Combines S p.dimension (vectors_at p M) cs point → (m : ℕ) × HasComponent S M cs m }
     ensures each { (S : Scalars) (point : List ℕ) (i : ℕ) (p q : ParityProblem) (M cs N : List ℕ) (m : ℕ) → IsField S → IsProblem S p → IsProblemModulo S point i p q
         → IsIndependentSet S p M → Combines S p.dimension (vectors_at p M) cs point → HasComponent S M cs m
-        → IsLineSet p N → ((l : ℕ) → Contains N l ↔ (Contains M l × (l ≢ m))) → IsIndependentSet S q N × (suc (length N) ≡ length M) }
+        → IsStrictlyIncreasing N → ((l : ℕ) → Contains N l ↔ (Contains M l × (l ≢ m))) → IsIndependentSet S q N × (suc (length N) ≡ length M) }
 {}
 
 /// A certificate of the problem modulo the point gives one of the problem: its kernel is lifted, the point put in front,
