@@ -1,8 +1,7 @@
-use Rattle.std.proofs.Common.{rules, ◌≡◌, ◌∷◌, map, subst, take, arith, All}
+use Rattle.std.proofs.Common.{rules, map, subst, arith, All}
 use Rattle.std.proofs.lemmas.List.{take_all}
 use Rattle.std.proofs.lemmas.List.Elements.{All-more}
 use Rattle.families.specs.Members.{SpansOf}
-use Rattle.families.specs.declared.member.Member.{Member}
 use Rattle.families.proofs.member.first_outside.Goals as goal
 
 pub loop-i-preserved : goal.loop-i-preserved
