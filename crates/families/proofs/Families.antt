@@ -1,5 +1,5 @@
 -- Families that begin with a set and grow by sets, and what is kept of their members.
-use Rattle.std.proofs.Common.{◌≡◌, ℕ, ◌<◌, List, [], ◌∷◌, ◌++◌, length, map, refl, sym, ap, ◌∙◌, subst, arith, All, get_or, take, Option, None, Some}
+use Rattle.std.proofs.Common.{◌≡◌, ℕ, ◌<◌, List, [], ◌∷◌, ◌++◌, length, refl, sym, ap, ◌∙◌, subst, arith, All, get_or, take, Option, None, Some}
 use Rattle.std.proofs.lemmas.List.{map-append, get_or-map, get_or_default, length-append, length-map, take-map}
 use Rattle.std.proofs.lemmas.List.Elements.{All-nil, All-cons, All-head, All-tail, All-push, All-get_or, All-map, All-take}
 use Rattle.std.specs.Prelude.{MatchOption}
@@ -64,11 +64,11 @@ module _ (S : Scalars) (p : ParityProblem) where
         width = w ∙ h.width;
         elements = λ x. (
           λ i.
-            let r = (e x).0 i in
-            All-push (Spans S p x) sets set ((h.elements x).0 r.0) ((s.elements x).0 (subst (λ d. InSpan S d span.rows x) (sym same) r.1)),
+              let r = (e x).0 i in
+              All-push (Spans S p x) sets set ((h.elements x).0 r.0) ((s.elements x).0 (subst (λ d. InSpan S d span.rows x) (sym same) r.1)),
           λ k.
-            let r = all_but_last (Spans S p x) sets set k in
-            (e x).1 ((h.elements x).1 r.0, subst (λ d. InSpan S d span.rows x) same ((s.elements x).1 r.1)),
+              let r = all_but_last (Spans S p x) sets set k in
+              (e x).1 ((h.elements x).1 r.0, subst (λ d. InSpan S d span.rows x) same ((s.elements x).1 r.1)),
         );
       }
 

@@ -1,11 +1,11 @@
 -- What a family keeps: of each member the set and its span, and the subspace that they have in common.
-use Rattle.std.specs.Prelude.{◌≡◌, ◌≢◌, ℕ, ◌<◌, List, All, length, map, take, slice_index_or}
+use Rattle.std.specs.Prelude.{◌≡◌, ℕ, ◌<◌, List, All, length, map, take, slice_index_or}
 use Rattle.field_core.specs.Matrix.{Matrix}
 use Rattle.linear_algebra.specs.Scalars.{Scalars}
 use Rattle.linear_algebra.specs.Spans.{InSpan}
 use Rattle.parity_lines.specs.Problems.{ParityProblem}
 use Rattle.quotients.specs.Subspaces.{HasElements}
-use Rattle.families.specs.Families.{SetFamily, IsFamily, IsCommon, Spans}
+use Rattle.families.specs.Families.{IsFamily, IsCommon, Spans}
 use Rattle.families.specs.declared.member.Member.{Member}
 
 -- the sets of the members

@@ -7,7 +7,7 @@ ghost use Rattle.families.specs.Members.{HasItsSpan, IsFirstOutside, IsSubspaceO
 
 use field_core::{Field, Rows};
 use parity_lines::{LineSet, Problem};
-use quotients::{Subspace, spanned};
+use quotients::Subspace;
 use std::alloc::{AllocError, Global};
 
 /// A set of lines, with the span of its vectors.
@@ -45,7 +45,7 @@ pub fn span_of<F: Field>(
     ensures { IfOk result (λ space. IsSubspaceOf F.scalars problem.now space (λ v. Spans F.scalars problem.now v set.now)) }
 {
     let vectors = vectors_of(alloc, problem, set)?;
-    spanned(alloc, problem.dimension(), &vectors)
+    Subspace::spanned(alloc, problem.dimension(), &vectors)
 }
 
 /// The set with its span.
@@ -59,15 +59,12 @@ pub fn member_of<F: Field>(
     ensures span { IfOk result (λ member. HasItsSpan F.scalars problem.now member) }
 {
     let span = span_of(alloc, problem, set)?;
-    let set = set.copied(alloc)?;
+    let set = set.copied()?;
     Ok(Member { set, span })
 }
 
 /// The first member in whose span `v` isn't.
-pub fn first_outside<F: Field>(
-    members: &[Member<F>],
-    v: &[F],
-) -> Result<Option<usize>, AllocError>
+pub fn first_outside<F: Field>(members: &[Member<F>], v: &[F]) -> Result<Option<usize>, AllocError>
     requires { All (λ m. m.span.width ≡ length v.now) members.now }
     ensures { IfOk result (λ found. MatchOption found
         (All (SpansOf F.scalars (map F.number v.now)) members.now)
