@@ -19,3 +19,5 @@ mod sets;
 mod subspaces;
 #[cfg(test)]
 mod verdicts;
+#[cfg(test)]
+mod walks;
