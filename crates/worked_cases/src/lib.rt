@@ -6,6 +6,8 @@
 #[cfg(test)]
 mod bases;
 #[cfg(test)]
+mod families;
+#[cfg(test)]
 mod fields;
 #[cfg(test)]
 mod places;

@@ -1,0 +1,2 @@
+pub mod LineVectors
+pub mod Families
