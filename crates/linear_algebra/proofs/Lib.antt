@@ -1,6 +1,7 @@
 pub mod Elements
 pub mod Coordinates
 pub mod Transfer
+pub mod ListsOfTuples
 pub mod VectorLaws
 pub mod Combinations
 pub mod Deciding

@@ -6,14 +6,14 @@ use Rattle.std.proofs.lemmas.Bool.{false≢true}
 use Rattle.std.proofs.lemmas.Bool.Decides.{eqb_tells}
 use Rattle.std.proofs.lemmas.List.{length-append}
 use Rattle.parity_theory.proofs.Duality.{kernel_costs_its_length, part_count}
-use Rattle.parity_theory.proofs.Lines.{vectors}
+use Rattle.parity_theory.proofs.Lines.{Misses, vectors}
 use Rattle.parity_theory.proofs.Positions.{sub_vectors, sub_filter, filter_only}
-use Rattle.vector_spaces.proofs.Bases.{HasRankOver}
-use Rattle.vector_spaces.proofs.Independence.{IsIndependent, same_length_independent, sublist_independent}
+use Rattle.vector_spaces.proofs.Bases.{HasRankOver, has_rank_over}
+use Rattle.vector_spaces.proofs.Independence.{IsIndependent, counting_bound, independent_right, same_length_independent, sublist_independent}
 use Rattle.vector_spaces.proofs.Members.{In}
 use Rattle.vector_spaces.proofs.Space.{Field, Space}
 use Rattle.vector_spaces.proofs.Sublists.{IsSublist, sub_in}
-use Rattle.vector_spaces.proofs.Within.{placing}
+use Rattle.vector_spaces.proofs.Within.{Within, within_append, within_left, within_members, within_nil, within_right, within_self}
 
 -- whether l is one of the list
 unfoldable pub has : List ℕ → ℕ → Bool
@@ -108,14 +108,38 @@ module _ {K V : Type 0} {f : Field K} (s : Space f V) (line : ℕ → V × V) wh
       let k : length J + length J ≤ p.1 = part_count s line B J p.0 p.1 j (λ l q. has_in p.0 l (filter_only (has p.0) I l q)) h.0 in
       omega arith
 
+  -- vectors A of the kernel's span that the lines of a set miss count as lines
+  pub bound_limits_missing_sets : (B : List V) (ps : List (List ℕ × ℕ)) (I : List ℕ) (A : List V) → IsIndependent s B →
+      PartsOver s line B ps → ((l : ℕ) → In l I → InPart l ps) → Within s A B → Misses s line I A →
+      length I + length A ≤ length B + halves ps
+  bound_limits_missing_sets B ps I A b h c k i = go (has_rank_over s A B (independent_right s (vectors line I) A i))
+    where
+      go : {n : ℕ} → HasRankOver s A B n → length I + length A ≤ length B + halves ps
+      go r =
+          let C : List V = r.chosen in
+          let inside : Within s (A ++ C) B = within_append s A C B k (within_members s C B r.chosen_in) in
+          let less : length (A ++ C) ≤ length B = counting_bound s (A ++ C) B r.independent inside in
+          let more : length B ≤ length (A ++ C) = counting_bound s B (A ++ C) b r.spans in
+          let t = kernel_costs_its_length s line I A C i r.independent in
+          let J : List ℕ = t.0 in
+          let w : Within s (vectors line J ++ (A ++ C)) (B ++ vectors line J) =
+          within_append s (vectors line J) (A ++ C) (B ++ vectors line J)
+          (within_right s (vectors line J) B (vectors line J) (within_self s (vectors line J)))
+          (within_left s (A ++ C) B (vectors line J) inside) in
+          let e1 : length (vectors line J ++ (A ++ C)) ≡ length (vectors line J) + length (A ++ C) =
+          length-append (vectors line J) (A ++ C) in
+          let e2 : length (B ++ vectors line J) ≡ length B + length (vectors line J) = length-append B (vectors line J) in
+          let e3 : length (A ++ C) ≡ length A + length C = length-append A C in
+          let j : IsIndependent s (B ++ vectors line J) =
+          same_length_independent s (vectors line J ++ (A ++ C)) (B ++ vectors line J) t.2 w (omega arith) in
+          let g = count_by_parts_le J ps (λ l q. c l (sub_in J I t.1 l q)) in
+          let d = bound_by_parts B J ps j h in
+          let e = t.3 in
+          omega arith
+
   -- what an independent set has is at most the kernel and the halves of the parts
   pub bound_limits_independent_sets : (B : List V) (ps : List (List ℕ × ℕ)) (I : List ℕ) → IsIndependent s B → PartsOver s line B ps →
       ((l : ℕ) → In l I → InPart l ps) → IsIndependent s (vectors line I) → length I ≤ length B + halves ps
   bound_limits_independent_sets B ps I b h c i =
-      let r = kernel_costs_its_length s line I [] B (rw (append-nil (vectors line I)) i) b in
-      let j : IsIndependent s (B ++ vectors line r.0) = same_length_independent s (vectors line r.0 ++ B) (B ++ vectors line r.0) r.2
-      (search placing) (omega (arith, length-append {A = V})) in
-      let k = count_by_parts_le r.0 ps (λ l q. c l (sub_in r.0 I r.1 l q)) in
-      let m = bound_by_parts B r.0 ps j h in
-      let e = r.3 in
+      let m = bound_limits_missing_sets B ps I [] b h c (within_nil s B) (rw (append-nil (vectors line I)) i) in
       omega arith

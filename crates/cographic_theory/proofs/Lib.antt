@@ -1,0 +1,6 @@
+pub mod Cuts
+pub mod CographicRelations
+pub mod TwoElements
+pub mod CographicVectors
+pub mod CographicTuples
+pub mod PairLines

@@ -1,0 +1,4 @@
+pub mod Occurrences
+pub mod Connections
+pub mod EdgePairs
+pub mod EdgeWalks

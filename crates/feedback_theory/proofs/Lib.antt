@@ -1,0 +1,11 @@
+pub mod LeadingEdges
+pub mod Outside
+pub mod Marks
+pub mod FeedbackOfPairs
+pub mod FeedbackReduction
+pub mod MarkedTrees
+pub mod PairsOfFeedback
+pub mod Cycles
+pub mod Degrees
+pub mod LeastFeedbackSets
+pub mod LeastOfLargest

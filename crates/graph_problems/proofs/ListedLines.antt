@@ -1,0 +1,19 @@
+-- Problems whose lines are those of the members of a list, in order.
+use Rattle.std.proofs.Common.{◌≡◌, ℕ, ◌<◌, List, [], length, get_or, map, ap, ◌∙◌, subst}
+use Rattle.std.proofs.lemmas.List.{length-map, get_or-map}
+use Rattle.vector_spaces.proofs.Members.{In-get_or}
+use Rattle.parity_lines.specs.Problems.{ParityProblem, line_at}
+use Rattle.graph_theory.specs.Counts.{InRange}
+use Rattle.graph_theory.specs.Walks.{edge_at}
+use Rattle.graph_theory.proofs.Shuffles.{range_in}
+
+module _ {X : Type 0} (p : ParityProblem) (line : X → List ℕ × List ℕ) (xs : List X) (lines : p.lines ≡ map line xs) where
+  pub as_many : length p.lines ≡ length xs
+  as_many = ap length lines ∙ length-map xs line
+
+  pub line_of : (i : ℕ) (x : X) → i < length p.lines → line_at p i ≡ line (get_or xs i x)
+  line_of i x l = ap (λ z. get_or z i ([], [])) lines ∙ get_or-map line xs i x ([], []) (subst (λ z. i < z) as_many l)
+
+-- the ends of an edge are vertices
+pub ends_below : (n : ℕ) (E : List (ℕ × ℕ)) → InRange n E → (i : ℕ) → i < length E → ((edge_at E i).0 < n) × ((edge_at E i).1 < n)
+ends_below n E r i l = range_in n E r (edge_at E i) (In-get_or E i (0, 0) l)
