@@ -1,9 +1,10 @@
 -- Half the ranks that parts add, summed.
-use Rattle.std.proofs.Common.{◌≡◌, ℕ, ◌+◌, ◌/◌, ◌<◌, ◌≤◌, List, [], ◌∷◌, length, take, get_or, sym, ap, ap₂, ◌∙◌, arith, All}
+use Rattle.std.proofs.Common.{◌≡◌, ℕ, ◌+◌, ◌/◌, ◌<◌, ◌≤◌, List, [], ◌∷◌, length, take, take_all, get_or, sym, ap, ap₂, ◌∙◌, arith, All}
 use Rattle.std.specs.Prelude.{sum_by}
 use Rattle.std.specs.List.Sorted.{IsStrictlyIncreasing}
 use Rattle.std.proofs.lemmas.List.Elements.{All-head, All-tail, All-weaker}
 use Rattle.std.proofs.lemmas.List.Sums.{sum_by-cons, sum_by_more, sum_by_more_le}
+use Rattle.field_core.specs.Matrix.{Matrix}
 use Rattle.linear_algebra.specs.Scalars.{Scalars, IsField}
 use Rattle.linear_algebra.specs.Vectors.{AreVectors}
 use Rattle.linear_algebra.specs.Ranks.{rank_over}
@@ -14,6 +15,10 @@ use Rattle.parity_lines.proofs.Border.{vectors_at-vectors}
 use Rattle.parity_lines.proofs.IndependentLines.{length-vectors_at}
 use Rattle.cert_check.specs.Verdicts.{IsDisjoint, halves_over}
 use Rattle.cert_check.proofs.Lengths.{lengths_le}
+
+-- what a part adds to the basis as it was
+pub rank_at : (S : Scalars) (p : ParityProblem) (now before : Matrix) (part : List ℕ) (parts : List (List ℕ)) (i r : ℕ) → r ≡ rank_over S p.dimension now.rows (vectors_at p part) → now ≡ before → part ≡ get_or parts i [] → r ≡ rank_over S p.dimension before.rows (vectors_at p (get_or parts i []))
+rank_at S p now before part parts i r e same is = e ∙ ap₂ (λ (m : Matrix) q. rank_over S p.dimension m.rows (vectors_at p q)) same is
 
 module _ (S : Scalars) (F : IsField S) (p : ParityProblem) (P : IsProblem S p) (rows : List (List ℕ)) (rows_in : AreVectors S p.dimension rows) where
   abbrev half : List ℕ → ℕ
@@ -35,7 +40,7 @@ module _ (S : Scalars) (F : IsField S) (p : ParityProblem) (P : IsProblem S p) (
       omega arith
 
   -- the sum is at most the number of lines
-  pub halves_le : (parts : List (List ℕ)) → ArePartLists parts → All (λ part. All (λ m. m < length p.lines) part) parts → IsDisjoint p parts → halves_over S p rows parts ≤ length p.lines
+  halves_le : (parts : List (List ℕ)) → ArePartLists parts → All (λ part. All (λ m. m < length p.lines) part) parts → IsDisjoint p parts → halves_over S p rows parts ≤ length p.lines
   halves_le parts a h d =
       let one = halves_le_lengths parts h in
       let two = lengths_le parts (length p.lines) (All-weaker IsPartList IsStrictlyIncreasing (λ part i. i.increasing) parts a) h d in
@@ -50,4 +55,11 @@ module _ (S : Scalars) (F : IsField S) (p : ParityProblem) (P : IsProblem S p) (
       let all = halves_le parts a w d in
       let more = sum_by_more_le half parts i [] h in
       let same = ap (λ n. n / 2) e in
+      omega arith
+
+  -- all parts
+  pub halves_few : (parts : List (List ℕ)) (i total : ℕ) → ArePartLists parts → All (λ part. All (λ m. m < length p.lines) part) parts → IsDisjoint p parts → length parts ≤ i → total ≡ halves_over S p rows (take i parts) → total ≤ length p.lines
+  halves_few parts i total a w d l e =
+      let most = halves_le parts a w d in
+      let all = ap (halves_over S p rows) (take_all i parts l) in
       omega arith

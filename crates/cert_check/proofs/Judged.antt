@@ -1,5 +1,5 @@
 -- What a verdict says follows from what was computed.
-use Rattle.std.proofs.Common.{◌≡◌, ℕ, ◌+◌, ◌/◌, ◌<◌, ◌≤◌, List, [], ◌∷◌, length, Some, refl, sym, ap₂, ◌∙◌, subst, arith, All}
+use Rattle.std.proofs.Common.{◌≡◌, ◌≢◌, ℕ, ◌+◌, ◌/◌, ◌<◌, ◌≤◌, List, [], ◌∷◌, length, Some, refl, sym, ap₂, ◌∙◌, subst, arith, All}
 use Rattle.std.specs.Prelude.{◌↔◌}
 use Rattle.std.specs.List.Sorted.{IsStrictlyIncreasing}
 use Rattle.std.proofs.lemmas.List.Elements.{All-head, All-tail}
@@ -19,6 +19,7 @@ use Rattle.parity_lines.proofs.Border.{vectors_at-vectors}
 use Rattle.echelon.proofs.Growing.{over_basis}
 use Rattle.parity_lines.proofs.EasyHalf.{good_answer_largest}
 use Rattle.cert_check.specs.Verdicts.{AreIndependent, IsCovered, IsDisjoint, TellsFault, Tells, halves_over}
+use Rattle.cert_check.specs.Judged.{IsJudged}
 use Rattle.cert_check.specs.declared.answers.Verdict.{Verdict}
 use Rattle.cert_check.specs.declared.answers.Verdict.TheVariants.{Yes, Dependent, KernelDependent, PartsMissing, PartsTwice, BoundOff}
 
@@ -53,11 +54,8 @@ module _ (S : Scalars) (F : IsField S) (p : ParityProblem) (kernel basis : Matri
   pub kernel_independent : length kernel.rows ≤ length basis.rows → IsIndependent S p.dimension kernel.rows
   kernel_independent l = subst (λ d. IsIndependent S d kernel.rows) width (same_length_independent S F kernel.width basis.rows kernel.rows b.vectors_in kernel_in b.independent b.within l)
 
-  pub basis_vectors : AreVectors S p.dimension basis.rows
-  basis_vectors = subst (λ d. AreVectors S d basis.rows) width b.vectors_in
-
   -- the basis adds to the parts what the kernel does
-  pub halves_of_kernel : IsProblem S p → (parts : List (List ℕ)) → All (λ part. All (λ m. m < length p.lines) part) parts → halves_over S p basis.rows parts ≡ halves_over S p kernel.rows parts
+  halves_of_kernel : IsProblem S p → (parts : List (List ℕ)) → All (λ part. All (λ m. m < length p.lines) part) parts → halves_over S p basis.rows parts ≡ halves_over S p kernel.rows parts
   halves_of_kernel P [] h = refl
   halves_of_kernel P (part ∷ parts) h =
       let vs = vectors_at p part in
@@ -68,7 +66,7 @@ module _ (S : Scalars) (F : IsField S) (p : ParityProblem) (kernel basis : Matri
       ∙ ap₂ (λ r n. r / 2 + n) at_dimension (halves_of_kernel P parts (All-tail (λ q. All (λ m. m < length p.lines) q) part parts h))
       ∙ sym (sum_by-cons (λ q. rank_over S p.dimension kernel.rows (vectors_at p q) / 2) part parts)
 
-  pub good_answer_found : (P : IsProblem S p) (set : List ℕ) (parts : List (List ℕ)) → IsStrictlyIncreasing set → All (λ m. m < length p.lines) set → ArePartLists parts → All (λ part. All (λ m. m < length p.lines) part) parts →
+  good_answer_found : (P : IsProblem S p) (set : List ℕ) (parts : List (List ℕ)) → IsStrictlyIncreasing set → All (λ m. m < length p.lines) set → ArePartLists parts → All (λ part. All (λ m. m < length p.lines) part) parts →
       AreIndependent S p set kernel → IsCovered p parts → IsDisjoint p parts → bound S p kernel parts ≡ length set → IsGoodAnswer S p set kernel parts
   good_answer_found P set parts s w l h i c d t = record {
     independent_set = record { line_set = record { increasing = s; within = w }; independent = i.of_set };
@@ -82,3 +80,20 @@ module _ (S : Scalars) (F : IsField S) (p : ParityProblem) (kernel basis : Matri
     };
     tight = t;
   }
+
+-- from what is known of an answer while its verdict is looked for
+pub judged_vectors : (S : Scalars) (p : ParityProblem) (set : List ℕ) (kernel : Matrix) (parts : List (List ℕ)) (basis : Matrix) → IsJudged S p set kernel parts basis → AreVectors S p.dimension basis.rows
+judged_vectors S p set kernel parts basis j = subst (λ d. AreVectors S d basis.rows) j.width j.basis_is.vectors_in
+
+-- and a kernel of vectors
+module _ (S : Scalars) (F : IsField S) (p : ParityProblem) (P : IsProblem S p) (set : List ℕ) (kernel : Matrix) (parts : List (List ℕ)) (basis : Matrix) (kernel_in : AreVectors S kernel.width kernel.rows) (j : IsJudged S p set kernel parts basis) where
+  -- the number that is compared is the bound
+  bound_is : (len h : ℕ) → len ≡ length kernel.rows → h ≡ halves_over S p basis.rows parts → len + h ≡ bound S p kernel parts
+  bound_is len h e f = ap₂ (λ m n. m + n) e (f ∙ halves_of_kernel S F p kernel basis j.width kernel_in j.basis_is P parts j.parts_within)
+
+  module _ (covered : IsCovered p parts) (disjoint : IsDisjoint p parts) (size len h : ℕ) (is_size : size ≡ length set) (is_len : len ≡ length kernel.rows) (is_half : h ≡ halves_over S p basis.rows parts) where
+    pub tight_told : IsStrictlyIncreasing set → ArePartLists parts → len + h ≡ size → Tells S p set kernel parts Yes
+    tight_told s l e = good_answer_found S F p kernel basis j.width kernel_in j.basis_is P set parts s j.set_within l j.parts_within j.independent covered disjoint (sym (bound_is len h is_len is_half) ∙ e ∙ is_size)
+
+    pub slack_told : len + h ≢ size → Tells S p set kernel parts (BoundOff size (len + h))
+    slack_told n = (j.independent, covered, disjoint, is_size, bound_is len h is_len is_half, n)

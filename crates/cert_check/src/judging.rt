@@ -3,8 +3,11 @@
 ghost use Rattle.std.specs.Prelude.{◌≡◌, ◌<◌, ◌≤◌, ◌↔◌, All, IfOk, length};
 ghost use Rattle.parity_lines.specs.LineSets.{IsLargest};
 ghost use Rattle.parity_lines.specs.Certificates.{IsGoodAnswer};
+ghost use Rattle.parity_lines.specs.Problems.{vectors_at};
 ghost use Rattle.linear_algebra.specs.Vectors.{AreVectors};
-ghost use Rattle.cert_check.specs.Verdicts.{IsDisjoint, TellsFault, Tells, halves_over};
+ghost use Rattle.linear_algebra.specs.Spans.{IsIndependent};
+ghost use Rattle.cert_check.specs.Judged.{IsJudged};
+ghost use Rattle.cert_check.specs.Verdicts.{IsCovered, IsDisjoint, TellsFault, Tells, halves_over};
 
 use crate::Verdict;
 use crate::counts::{count_parts, first_with};
@@ -32,7 +35,7 @@ fn parts_fault<F: Field>(
     Ok(None)
 }
 
-/// The sum of half the ranks that the parts add to the basis, each rounded down.
+/// The sum of half the ranks that the parts add to the basis, each rounded down. The basis is left as it was.
 fn halves<F: Field>(
     basis: &mut Echelon<F>,
     problem: &Problem<F>,
@@ -42,6 +45,7 @@ fn halves<F: Field>(
     requires vectors { AreVectors F.scalars problem.now.dimension basis.old.rows }
     requires within { All (λ part. All (λ m. m < length problem.now.lines) part) parts.now }
     requires disjoint { IsDisjoint problem.now parts.now }
+    ensures same { basis.new ≡ basis.old }
     ensures sum { IfOk result (λ h. h ≡ halves_over F.scalars problem.now basis.old.rows parts.now) }
     ensures few { IfOk result (λ h. h ≤ length problem.now.lines) }
 {
@@ -51,6 +55,66 @@ fn halves<F: Field>(
         total += added_rank(basis, problem, parts.at(i))? / 2;
     }
     Ok(total)
+}
+
+/// The verdict by the bound, where nothing before it is wrong.
+fn verdict_by_bound<F: Field>(
+    mut basis: Echelon<F>,
+    problem: &Problem<F>,
+    answer: &Answer<F>,
+) -> Result<Verdict, AllocError>
+    requires judged { IsJudged F.scalars problem.now answer.now.set answer.now.certificate.kernel answer.now.certificate.parts basis }
+    requires covered { IsCovered problem.now answer.now.certificate.parts }
+    requires disjoint { IsDisjoint problem.now answer.now.certificate.parts }
+    ensures { IfOk result (Tells F.scalars problem.now answer.now.set answer.now.certificate.kernel answer.now.certificate.parts) }
+{
+    let certificate = &answer.certificate;
+    let _lines = problem.len();
+    let _parts = certificate.parts.len();
+    let halves = halves(&mut basis, problem, &certificate.parts)?;
+    let bound = certificate.kernel.len() + halves;
+    let size = answer.set.len();
+    if bound == size {
+        Ok(Verdict::Yes)
+    } else {
+        Ok(Verdict::BoundOff { size, bound })
+    }
+}
+
+/// The verdict by the parts and the bound, where the set and the kernel are independent.
+fn verdict_by_parts<F: Field>(
+    alloc: Global,
+    basis: Echelon<F>,
+    problem: &Problem<F>,
+    answer: &Answer<F>,
+) -> Result<Verdict, AllocError>
+    requires { IsJudged F.scalars problem.now answer.now.set answer.now.certificate.kernel answer.now.certificate.parts basis }
+    ensures { IfOk result (Tells F.scalars problem.now answer.now.set answer.now.certificate.kernel answer.now.certificate.parts) }
+{
+    match parts_fault(alloc, problem, &answer.certificate.parts)? {
+        Some(fault) => Ok(fault),
+        None => verdict_by_bound(basis, problem, answer),
+    }
+}
+
+/// The verdict by the certificate, where the set is independent.
+fn verdict_by_certificate<F: Field>(
+    alloc: Global,
+    problem: &Problem<F>,
+    answer: &Answer<F>,
+) -> Result<Verdict, AllocError>
+    requires set { All (λ m. m < length problem.now.lines) answer.now.set }
+    requires parts { All (λ part. All (λ m. m < length problem.now.lines) part) answer.now.certificate.parts }
+    requires width { answer.now.certificate.kernel.width ≡ problem.now.dimension }
+    requires independent { IsIndependent F.scalars problem.now.dimension (vectors_at problem.now answer.now.set) }
+    ensures { IfOk result (Tells F.scalars problem.now answer.now.set answer.now.certificate.kernel answer.now.certificate.parts) }
+{
+    let kernel = &answer.certificate.kernel;
+    let basis = basis_of(alloc, kernel)?;
+    if basis.rank() < kernel.len() {
+        return Ok(Verdict::KernelDependent);
+    }
+    verdict_by_parts(alloc, basis, problem, answer)
 }
 
 /// The verdict on an answer to a problem. `Yes` comes exactly where the answer is good, and its set is then
@@ -67,25 +131,11 @@ pub fn verdict<F: Field>(
     ensures yes { IfOk result (λ v. (v ≡ Verdict.Yes) ↔ IsGoodAnswer F.scalars problem.now answer.now.set answer.now.certificate.kernel answer.now.certificate.parts) }
     ensures largest { IfOk result (λ v. v ≡ Verdict.Yes → IsLargest F.scalars problem.now answer.now.set) }
 {
-    let certificate = &answer.certificate;
     let _lines = problem.len();
-    let _parts = certificate.parts.len();
-    if let Independence::Relation(_) = is_independent(alloc, problem, &answer.set)? {
+    let found = is_independent(alloc, problem, &answer.set)?;
+    if let Independence::Relation(_) = found {
         return Ok(Verdict::Dependent);
     }
-    let mut basis = basis_of(alloc, &certificate.kernel)?;
-    if basis.rank() < certificate.kernel.len() {
-        return Ok(Verdict::KernelDependent);
-    }
-    if let Some(fault) = parts_fault(alloc, problem, &certificate.parts)? {
-        return Ok(fault);
-    }
-    let halves = halves(&mut basis, problem, &certificate.parts)?;
-    let bound = certificate.kernel.len() + halves;
-    let size = answer.set.len();
-    if bound == size {
-        Ok(Verdict::Yes)
-    } else {
-        Ok(Verdict::BoundOff { size, bound })
-    }
+    let verdict = verdict_by_certificate(alloc, problem, answer)?;
+    Ok(verdict)
 }

@@ -8,12 +8,6 @@ mod answers;
 mod counts;
 mod judging;
 mod laws;
-#[cfg(test)]
-mod made;
-#[cfg(test)]
-mod slow;
-#[cfg(test)]
-mod tests;
 
 pub use answers::Verdict;
 pub use judging::verdict;

@@ -1,4 +1,5 @@
 -- What an insertion relies on: a vector in the span is combined, and a step for one outside keeps the basis.
+use Rattle.field_core.specs.Matrix.{Matrix}
 use Rattle.field_core.proofs.Values.{vector_of_values}
 use Rattle.echelon.proofs.Eliminations.{removed_by_next}
 use Rattle.echelon.proofs.Transfers.{reduced-vector, IsElimination, coordinate, eliminated-vector, entry-scalar, reduced-push, element-entry, tuple-eliminated, coordinate-linear}
@@ -193,9 +194,9 @@ found S f small d ss steps v cs rest same long as_many is_rest is_sum = record {
 }
 
 module _ (S : Scalars) (F : IsField S) (d : ℕ) {X : Type 0} (ss : List (Step X)) (e : IsEchelon S d ss) (v rest cs : List ℕ) (found_it : IsFound S d ss v rest cs) where
-  pub insert_old : (shown ds : List ℕ) → shown ≡ rest → shown ≡ zero_vector S (length shown) → IsNegated S cs ds → Combines S d (taken ss) ds v
-  insert_old shown ds is z n =
-      let long : length shown ≡ d = ap length (is ∙ found_it.rest_is) ∙ (reduced-vector S F d ss v (is_elimination S F d ss e) found_it.vector).length_is in
+  pub insert_old : {Y : Type 0} (f : Y → ℕ) (shown : List Y) (ds : List ℕ) → map f shown ≡ rest → map f shown ≡ zero_vector S (length shown) → IsNegated S cs ds → Combines S d (taken ss) ds v
+  insert_old f shown ds is z n =
+      let long : length shown ≡ d = sym (length-map shown f) ∙ ap length (is ∙ found_it.rest_is) ∙ (reduced-vector S F d ss v (is_elimination S F d ss e) found_it.vector).length_is in
       old_combines S F d (taken ss) v cs ds (taken-vectors S F d ss e) found_it.vector (subst (λ n. IsVector S n cs) (sym (length-taken ss)) found_it.coefficients)
       (sym found_it.sum ∙ sym is ∙ z ∙ ap (zero_vector S) long) n
 
@@ -205,3 +206,15 @@ module _ (S : Scalars) (F : IsField S) (d : ℕ) {X : Type 0} (ss : List (Step X
 
     pub insert_new : (s : Step X) → IsNextStep S v rest p cs s → IsEchelon S d (ss ++ s ∷ [])
     insert_new s n = next_is_echelon S F d ss e s v rest p cs found_it.vector found_it.rest_is found_it.sum found_it.coefficients (subst (λ w. LeadsAt S w p) is l) n
+
+-- what was found by steps of these values holds of the steps themselves
+module _ (S : Scalars) {X : Type 0} (d n : ℕ) (ss shown : List (Step X)) where
+  pub step_taken : (now : List (Step X)) (s : Step X) → n ≡ d → shown ≡ ss → now ≡ ss ++ s ∷ [] → IsEchelon S n (shown ++ s ∷ []) → IsEchelon S d now
+  step_taken now s e a b h = subst (IsEchelon S d) (ap (λ ts. ts ++ s ∷ []) a ∙ sym b) (subst (λ m. IsEchelon S m (shown ++ s ∷ [])) e h)
+
+  pub still_outside : (v : List ℕ) → n ≡ d → shown ≡ ss → ¬ (InSpan S n (taken shown) v) → ¬ (InSpan S d (taken ss) v)
+  still_outside v e a h = subst (λ ts. InSpan S d (taken ts) v → ⊥) a (subst (λ m. InSpan S m (taken shown) v → ⊥) e h)
+
+pub matrix_more : {X : Type 0} (d : ℕ) (ss now : List (Step X)) (s : Step X) (v : List ℕ) → now ≡ ss ++ s ∷ [] → s.vector ≡ v →
+    (let w : Matrix = record { width = d; rows = taken now } in w) ≡ record { width = d; rows = taken ss ++ v ∷ [] }
+matrix_more d ss now s v is is_v = ap (λ (rows : List (List ℕ)). let w : Matrix = record { width = d; rows = rows } in w) (ap taken is ∙ taken-push ss s ∙ ap (λ x. taken ss ++ x ∷ []) is_v)

@@ -33,7 +33,7 @@ take-take_less (suc i) (suc n) [] h = refl
 take-take_less (suc i) (suc n) (x ∷ xs) h = ap (λ ys. x ∷ ys) (take-take_less i n xs (omega arith))
 
 module _ (S : Scalars) (F : IsField S) (d : ℕ) {X : Type 0} where
-  pub prefix_is_echelon : (ss : List (Step X)) (n : ℕ) → n ≤ length ss → IsEchelon S d ss → IsEchelon S d (take n ss)
+  prefix_is_echelon : (ss : List (Step X)) (n : ℕ) → n ≤ length ss → IsEchelon S d ss → IsEchelon S d (take n ss)
   prefix_is_echelon ss n h e = record {
     steps = λ i s l. subst (IsStep S d (take n ss) i) (sym (get_or-take n ss i s (let q = long in omega arith))) (step i s (let q = long in omega arith));
     independent = independent_left S F d (taken (take n ss)) (taken (drop n ss)) (front_in (taken-vectors S F d ss e)) (back_in (taken-vectors S F d ss e)) (subst (IsIndependent S d) split e.independent);
@@ -64,3 +64,7 @@ module _ (S : Scalars) (F : IsField S) (d : ℕ) {X : Type 0} where
             zero_at_earlier = λ j t m. ap (λ (u : Step X). get_or (get_or ss i s).row u.pivot 0) (get_or-take n ss j t (omega arith)) ∙ r.zero_at_earlier j t m;
             removes = ap (λ ts. reduced S ts (get_or ss i s).vector) (take-take_less (i + 1) n ss (omega arith)) ∙ r.removes;
           }
+
+-- the steps that are kept, by another name
+pub kept_is_echelon : (S : Scalars) (F : IsField S) (d : ℕ) {X : Type 0} (ss kept : List (Step X)) (n : ℕ) → kept ≡ take n ss → n ≤ length ss → IsEchelon S d ss → IsEchelon S d kept
+kept_is_echelon S F d ss kept n e h i = subst (IsEchelon S d) (sym e) (prefix_is_echelon S F d ss n h i)

@@ -3,8 +3,9 @@
 ghost use Rattle.std.specs.Prelude.{◌≡◌, ◌≤◌, ◌↔◌, [], IfOk, OnErr, IsTrue, MatchOption, map, length, take};
 ghost use Rattle.linear_algebra.specs.Vectors.{AreVectors};
 ghost use Rattle.linear_algebra.specs.Spans.{InSpan, Combines, IsIndependent};
+ghost use Rattle.linear_algebra.specs.Ranks.{rank as rank_of};
 
-use crate::elimination::{first_nonzero, negated, next_step, reduce, remainder_of};
+use crate::elimination::{Found, find, next_step, reduce};
 use crate::step::Step;
 use field_core::{Field, Row, is_zero};
 use std::alloc::{AllocError, Global};
@@ -61,11 +62,10 @@ impl<F: Field> Echelon<F> {
         ensures ok { IfOk result (Inserts F.scalars self.old (map F.number v.now) self.new) }
         ensures err { OnErr result (self.new ≡ self.old) }
     {
-        let found = remainder_of(self.alloc, &self.steps, v)?;
-        match first_nonzero(found.rest.as_slice()) {
-            None => Ok(Inserted::Old(negated(self.alloc, found.coefficients)?)),
-            Some(pivot) => {
-                let step = next_step(self.alloc, v, found, pivot)?;
+        match find(self.alloc, &self.steps, v)? {
+            Found::Inside(coefficients) => Ok(Inserted::Old(coefficients)),
+            Found::Outside { left, pivot } => {
+                let step = next_step(self.alloc, v, left, pivot)?;
                 self.steps.push(step)?;
                 Ok(Inserted::New)
             }
@@ -78,16 +78,16 @@ impl<F: Field> Echelon<F> {
         ensures { IfOk result (λ found. MatchOption found (¬ (InSpan F.scalars self.now.width self.now.rows (map F.number v.now)))
             (λ cs. Combines F.scalars self.now.width self.now.rows cs (map F.number v.now))) }
     {
-        let found = remainder_of(self.alloc, &self.steps, v)?;
-        match first_nonzero(found.rest.as_slice()) {
-            None => Ok(Some(negated(self.alloc, found.coefficients)?)),
-            Some(_) => Ok(None),
+        match find(self.alloc, &self.steps, v)? {
+            Found::Inside(coefficients) => Ok(Some(coefficients)),
+            Found::Outside { .. } => Ok(None),
         }
     }
 
     /// How many vectors were taken: the rank of the subspace.
     pub fn rank(&self) -> usize
         ensures value { result ≡ length self.now.rows }
+        ensures rank { result ≡ rank_of F.scalars self.now.width self.now.rows }
         ensures vectors { AreVectors F.scalars self.now.width self.now.rows }
         ensures independent { IsIndependent F.scalars self.now.width self.now.rows }
     {

@@ -1,10 +1,11 @@
 //! Elimination by steps, one after the other.
 
-ghost use Rattle.std.specs.Prelude.{◌≡◌, ◌≢◌, ◌<◌, ℕ, IfOk, MatchOption, map, length, slice_index};
+ghost use Rattle.std.specs.Prelude.{◌≡◌, ◌≢◌, ◌<◌, ◌+◌, ◌++◌, ◌∷◌, [], ℕ, IfOk, MatchOption, map, length, slice_index};
 ghost use Rattle.linear_algebra.specs.Vectors.{zero_vector, vector_sum, multiple};
 ghost use Rattle.linear_algebra.specs.Spans.{combination};
-ghost use Rattle.echelon.specs.Steps.{reduced, taken, IsEchelon, IsNextStep, IsNegated};
+ghost use Rattle.echelon.specs.Steps.{eliminated, reduced, taken, IsEchelon, IsNextStep, IsNegated};
 ghost use Rattle.echelon.specs.Leads.{LeadsAt};
+ghost use Rattle.echelon.specs.Found.{Finds};
 
 use crate::step::Step;
 use field_core::{Field, Row, axpy, scale};
@@ -23,15 +24,45 @@ pub fn first_nonzero<F: Field>(v: &[F]) -> Option<usize>
     None
 }
 
+/// Adds the multiple of the row that makes `v` zero at the pivot, and answers the factor.
+fn eliminate<F: Field>(step: &Step<F>, v: &mut [F]) -> F
+    requires pivot { step.now.pivot < length v.old }
+    requires row { length step.now.row ≡ length v.old }
+    ensures factor { F.number result ≡ slice_index (map F.number v.old) step.now.pivot }
+    ensures rest { map F.number v.new ≡ eliminated F.scalars step.now (map F.number v.old) }
+{
+    let factor = v[step.pivot];
+    axpy(v, factor, step.row.as_slice());
+    factor
+}
+
 /// Adds the multiples of the rows that make `v` zero at the pivots.
 pub fn reduce<F: Field>(steps: &[Step<F>], v: &mut [F])
     requires { IsEchelon F.scalars (length v.old) steps.now }
     ensures { map F.number v.new ≡ reduced F.scalars steps.now (map F.number v.old) }
 {
     for step in steps {
-        let factor = v[step.pivot];
-        axpy(v, factor, step.row.as_slice());
+        let _factor = eliminate(step, v);
     }
+}
+
+/// Adds the coefficients of the step, times the factor, of which the last is new.
+fn add_coefficients<F: Field>(
+    coefficients: &mut Vec<F>,
+    factor: F,
+    step: &Step<F>,
+) -> Result<(), AllocError>
+    requires { length step.now.coefficients ≡ length coefficients.old.items + 1 }
+    ensures long { IfOk result (λ _. length coefficients.new.items ≡ length coefficients.old.items + 1) }
+    ensures sum { IfOk result (λ _. map F.number coefficients.new.items ≡ vector_sum F.scalars (map F.number coefficients.old.items ++ F.scalars.zero ∷ []) (multiple F.scalars (F.number factor) step.now.coefficients)) }
+{
+    coefficients.push(F::zero())?;
+    axpy(
+        coefficients.as_mut_slice(),
+        factor,
+        step.coefficients.as_slice(),
+    );
+    Ok(())
 }
 
 /// As [`reduce`], and answers the coefficients of what was added.
@@ -47,14 +78,8 @@ fn reduce_with<F: Field>(
 {
     let mut coefficients = Vec::new(alloc);
     for step in steps {
-        let factor = v[step.pivot];
-        axpy(v, factor, step.row.as_slice());
-        coefficients.push(F::zero())?;
-        axpy(
-            coefficients.as_mut_slice(),
-            factor,
-            step.coefficients.as_slice(),
-        );
+        let factor = eliminate(step, v);
+        add_coefficients(&mut coefficients, factor, step)?;
     }
     Ok(coefficients)
 }
@@ -67,7 +92,7 @@ pub struct Remainder<F: Field> {
 }
 
 /// Reduces a copy of `v`.
-pub fn remainder_of<F: Field>(
+fn remainder_of<F: Field>(
     alloc: Global,
     steps: &[Step<F>],
     v: &[F],
@@ -83,11 +108,36 @@ pub fn remainder_of<F: Field>(
 }
 
 /// Minus the coefficients.
-pub fn negated<F: Field>(alloc: Global, mut coefficients: Vec<F>) -> Result<Row<F>, AllocError>
+fn negated<F: Field>(alloc: Global, mut coefficients: Vec<F>) -> Result<Row<F>, AllocError>
     ensures { IfOk result (IsNegated F.scalars (map F.number coefficients.items)) }
 {
     scale(coefficients.as_mut_slice(), F::one().neg());
     Row::copy_of(alloc, &coefficients)
+}
+
+/// What an elimination finds of a vector.
+#[derive(Drop)]
+pub enum Found<F: Field> {
+    /// It is in the span; these coefficients combine the vectors that were taken to it.
+    Inside(Row<F>),
+    /// It is outside, and leaves this, which leads at the pivot.
+    Outside { left: Remainder<F>, pivot: usize },
+}
+
+/// Reduces a copy of `v`, and tells whether it is in the span.
+pub fn find<F: Field>(
+    alloc: Global,
+    steps: &[Step<F>],
+    v: &[F],
+) -> Result<Found<F>, AllocError>
+    requires { IsEchelon F.scalars (length v.now) steps.now }
+    ensures { IfOk result (Finds F.scalars F.number (length v.now) steps.now (map F.number v.now)) }
+{
+    let left = remainder_of(alloc, steps, v)?;
+    match first_nonzero(left.rest.as_slice()) {
+        None => Ok(Found::Inside(negated(alloc, left.coefficients)?)),
+        Some(pivot) => Ok(Found::Outside { left, pivot }),
+    }
 }
 
 /// What multiplied by `x` gives minus one.

@@ -1,8 +1,8 @@
 -- The rank of appends, and its bounds.
-use Rattle.std.proofs.Common.{◌≡◌, ℕ, ◌+◌, ◌-◌, ◌≤◌, le_antisymm, List, [], ◌++◌, length, sym, ap, ap₂, ◌∙◌, arith, append-nil, append_assoc, All}
+use Rattle.std.proofs.Common.{◌≡◌, ℕ, ◌+◌, ◌-◌, ◌≤◌, le_antisymm, List, [], ◌++◌, length, sym, ap, ap₂, ◌∙◌, arith, append-nil, All}
 use Rattle.std.proofs.lemmas.List.{length-map, map-append}
-use Rattle.std.proofs.lemmas.List.Elements.{All-append}
-use Rattle.vector_spaces.proofs.Ranks.{rank-append as append_law, rank_le_length as length_law, rank_monotone, rank_of_independent as independent_law, independent_of_rank as rank_law}
+use Rattle.std.proofs.lemmas.List.Elements.{All-append, All-nil}
+use Rattle.vector_spaces.proofs.Ranks.{rank-append as append_law, rank_le_length as length_law, rank_antitone, rank_monotone, rank_of_independent as independent_law, independent_of_rank as rank_law}
 use Rattle.vector_spaces.proofs.Tuples.{Tuple}
 use Rattle.vector_spaces.proofs.Span.{InSpan as InSpan_of, span_closure, span_through}
 use Rattle.linear_algebra.specs.Scalars.{Scalars, IsField}
@@ -13,8 +13,8 @@ use Rattle.linear_algebra.proofs.Elements.{Element, scalar_field}
 use Rattle.linear_algebra.proofs.Coordinates.{tuple, space}
 use Rattle.linear_algebra.proofs.Transfer.{tuples_of, independent_to_tuples, independent_from_tuples}
 use Rattle.linear_algebra.proofs.Ranks.{rank_of_tuples, rank-tuples}
-use Rattle.linear_algebra.proofs.SpanLaws.{within_tuples, span_append_left, span_member}
-use Rattle.vector_spaces.proofs.Members.{all-In, In-all, In-append_right}
+use Rattle.linear_algebra.proofs.SpanLaws.{within_tuples, span_append_left, span_append_right, span_member}
+use Rattle.vector_spaces.proofs.Members.{all-In, In-all}
 
 module _ (S : Scalars) (F : IsField S) (d : ℕ) where
   -- the rank of the tuples of an append
@@ -31,14 +31,6 @@ module _ (S : Scalars) (F : IsField S) (d : ℕ) where
 
   pub rank-append : (us vs : List (List ℕ)) → AreVectors S d us → AreVectors S d vs → rank S d (us ++ vs) ≡ rank S d us + rank_over S d us vs
   rank-append us vs h k = let e = rank-append_tuples us vs h k in omega arith
-
-  -- vs and then ws add to us what both add
-  pub rank_over-append : (us vs ws : List (List ℕ)) → AreVectors S d us → AreVectors S d vs → AreVectors S d ws → rank_over S d us (vs ++ ws) ≡ rank_over S d us vs + rank_over S d (us ++ vs) ws
-  rank_over-append us vs ws h k l =
-      let e = rank-append us vs h k in
-      let f = rank-append (us ++ vs) ws (All-append (IsVector S d) us vs h k) l in
-      let g : rank S d (us ++ (vs ++ ws)) ≡ rank S d ((us ++ vs) ++ ws) = ap (rank S d) (sym (append_assoc us vs ws)) in
-      omega arith
 
   pub rank_le_length : (vs : List (List ℕ)) → AreVectors S d vs → rank S d vs ≤ length vs
   rank_le_length vs h =
@@ -71,17 +63,45 @@ module _ (S : Scalars) (F : IsField S) (d : ℕ) where
   pub rank_same : (us vs : List (List ℕ)) → AreVectors S d us → AreVectors S d vs → All (InSpan S d vs) us → All (InSpan S d us) vs → rank S d us ≡ rank S d vs
   rank_same us vs h k a b = le_antisymm (rank_le us vs h k a) (rank_le vs us k h b)
 
-  -- and as much is added to both
+  -- appends of lists in the spans of others
+  within-append : (us ws vs xs : List (List ℕ)) → AreVectors S d us → AreVectors S d ws → AreVectors S d vs → AreVectors S d xs → All (InSpan S d ws) us → All (InSpan S d xs) vs → All (InSpan S d (ws ++ xs)) (us ++ vs)
+  within-append us ws vs xs h k l m a b =
+      let all = All-append (IsVector S d) ws xs k m in
+      All-append (InSpan S d (ws ++ xs)) us vs
+      (all-In (InSpan S d (ws ++ xs)) us (λ x i. span_append_left S F d ws xs x all (In-all (IsVector S d) us h x i) (In-all (InSpan S d ws) us a x i)))
+      (all-In (InSpan S d (ws ++ xs)) vs (λ x i. span_append_right S F d ws xs x all (In-all (IsVector S d) vs l x i) (In-all (InSpan S d xs) vs b x i)))
+
+  pub spans_within : (us vs : List (List ℕ)) → AreVectors S d us → ((x : List ℕ) → InSpan S d us x → InSpan S d vs x) → All (InSpan S d vs) us
+  spans_within us vs h e = all-In (InSpan S d vs) us (λ x i. e x (span_member S F d us x h i))
+
+  within_itself : (vs : List (List ℕ)) → AreVectors S d vs → All (InSpan S d vs) vs
+  within_itself vs h = spans_within vs vs h (λ x k. k)
+
+  -- and lists in the span of each other add as much to such lists
+  pub added_same : (us ws vs xs : List (List ℕ)) → AreVectors S d us → AreVectors S d ws → AreVectors S d vs → AreVectors S d xs
+      → All (InSpan S d ws) us → All (InSpan S d us) ws → All (InSpan S d xs) vs → All (InSpan S d vs) xs → rank_over S d us vs ≡ rank_over S d ws xs
+  added_same us ws vs xs h k l m a b c e =
+      ap₂ (λ i j. i - j) (rank_same (us ++ vs) (ws ++ xs) (All-append (IsVector S d) us vs h l) (All-append (IsVector S d) ws xs k m) (within-append us ws vs xs h k l m a c) (within-append ws us xs vs k h m l b e)) (rank_same us ws h k a b)
+
   pub rank_over_same : (us ws vs : List (List ℕ)) → AreVectors S d us → AreVectors S d ws → AreVectors S d vs → All (InSpan S d ws) us → All (InSpan S d us) ws → rank_over S d us vs ≡ rank_over S d ws vs
-  rank_over_same us ws vs h k l a b =
-      ap₂ (λ m n. m - n) (rank_same (us ++ vs) (ws ++ vs) (All-append (IsVector S d) us vs h l) (All-append (IsVector S d) ws vs k l) (both us ws h k a) (both ws us k h b)) (rank_same us ws h k a b)
-    where
-      both : (xs ys : List (List ℕ)) → AreVectors S d xs → AreVectors S d ys → All (InSpan S d ys) xs → All (InSpan S d (ys ++ vs)) (xs ++ vs)
-      both xs ys m n c =
-          let all = All-append (IsVector S d) ys vs n l in
-          All-append (InSpan S d (ys ++ vs)) xs vs
-          (all-In (InSpan S d (ys ++ vs)) xs (λ x i. span_append_left S F d ys vs x all (In-all (IsVector S d) xs m x i) (In-all (InSpan S d ys) xs c x i)))
-          (all-In (InSpan S d (ys ++ vs)) vs (λ x i. span_member S F d (ys ++ vs) x all (In-append_right x ys vs i)))
+  rank_over_same us ws vs h k l a b = added_same us ws vs vs h k l l a b (within_itself vs l) (within_itself vs l)
+
+  -- less is added to a list that spans more
+  pub rank_over_less : (us ws vs : List (List ℕ)) → AreVectors S d us → AreVectors S d ws → AreVectors S d vs → All (InSpan S d ws) us → rank_over S d ws vs ≤ rank_over S d us vs
+  rank_over_less us ws vs h k l a =
+      let e = rank_over-tuples us vs h l in
+      let f = rank_over-tuples ws vs k l in
+      let w = within_tuples S F d us ws k a in
+      let less = rank_antitone (Tuple (Element S) d) (InSpan_of (space S F d)) (span_closure (scalar_field S F) (space S F d)) (tuples_of S F d us) (tuples_of S F d ws) (tuples_of S F d vs)
+      (λ x c. span_through (scalar_field S F) (space S F d) (tuples_of S F d us) (tuples_of S F d ws) x w.each c) in
+      omega arith
+
+  -- the rank of an append is at most the sum
+  pub rank-append_le : (us vs : List (List ℕ)) → AreVectors S d us → AreVectors S d vs → rank S d (us ++ vs) ≤ rank S d us + rank S d vs
+  rank-append_le us vs h k =
+      let e = rank-append us vs h k in
+      let l = rank_over_less [] us vs (All-nil (IsVector S d)) h k (All-nil (InSpan S d us)) in
+      omega arith
 
   -- no more is added than there are vectors
   pub rank_over_le_length : (us vs : List (List ℕ)) → AreVectors S d us → AreVectors S d vs → rank_over S d us vs ≤ length vs

@@ -11,4 +11,6 @@
 
 mod laws;
 
-pub use laws::{exchange_lemma, rank_is_greatest, rank_of_append};
+pub use laws::{
+    added_rank_is_of_the_spans, exchange_lemma, rank_is_greatest, rank_is_of_the_span,
+};

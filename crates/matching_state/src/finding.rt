@@ -94,7 +94,7 @@ impl<'a, F: Field> Matched<'a, F> {
     }
 
     /// What the line is found to be.
-    pub fn found(&self, line: usize) -> Result<Found<F>, AllocError>
+    pub(crate) fn found(&self, line: usize) -> Result<Found<F>, AllocError>
         requires { line < length self.now.problem.lines }
         ensures { IfOk result (IsFound F.scalars self.now.problem self.now.set line) }
     {

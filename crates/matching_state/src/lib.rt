@@ -14,14 +14,10 @@
 mod exposure;
 mod finding;
 mod laws;
-#[cfg(test)]
-mod made;
 mod matched;
 mod place;
 mod ratio;
 mod step;
-#[cfg(test)]
-mod tests;
 
 pub use laws::{
     exchange_keeps_what_is_missed, overlaps_are_told_by_any_tips, tips_are_unique,

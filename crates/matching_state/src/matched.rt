@@ -57,7 +57,7 @@ impl<'a, F: Field> Matched<'a, F> {
             LineBasis::Basis(basis) => Ok(Start::Ready(Matched {
                 alloc,
                 problem,
-                set: set.copied(alloc)?,
+                set: set.copied()?,
                 basis,
             })),
             LineBasis::Relation(relation) => Ok(Start::Relation(relation)),

@@ -30,7 +30,7 @@ struct Pair {
     second: usize,
 }
 
-/// The first index of a pair in both lists whose determinant isn't zero.
+/// The index of a pair in both lists whose determinant isn't zero.
 fn independent_pair<F: Field>(first: &[F], second: &[F]) -> Option<usize>
     requires { length second.now ≡ length first.now }
     ensures { MatchOption result
@@ -58,7 +58,7 @@ fn common_place<F: Field>(first: &Exposure<F>, second: &Exposure<F>) -> Option<u
     independent_pair(first.coordinates.as_slice(), second.coordinates.as_slice())
 }
 
-/// The first line that can take a place together with `exposure`.
+/// A line that can take a place together with `exposure`.
 fn partner<F: Field>(exposure: &Exposure<F>, others: &[Exposure<F>]) -> Option<Pair>
     requires { All (IsAlike F.scalars exposure.now) others.now }
     ensures { MatchOption result
@@ -120,9 +120,9 @@ impl<'a, F: Field> Matched<'a, F> {
         ensures step { IfOk result (IsTwoLineStep self.now.set (slice_index self.now.set pair.gone) pair.first pair.second) }
     {
         let set = self.set();
-        let kept = set.without(self.alloc(), set.at(pair.gone))?;
-        let half = kept.with(self.alloc(), pair.first)?;
-        half.with(self.alloc(), pair.second)
+        let kept = set.without(set.at(pair.gone))?;
+        let half = kept.with(pair.first)?;
+        half.with(pair.second)
     }
 
     /// An independent set that is one line longer than M, and is M with a line, or with two lines in the place of
@@ -132,7 +132,7 @@ impl<'a, F: Field> Matched<'a, F> {
     {
         let set = self.set();
         match self.survey()? {
-            Survey::Free(line) => Ok(Some(set.with(self.alloc(), line)?)),
+            Survey::Free(line) => Ok(Some(set.with(line)?)),
             Survey::Exposed(exposed) => match pair_of(&exposed) {
                 Some(pair) => Ok(Some(self.with_pair(pair)?)),
                 None => Ok(None),

@@ -1,7 +1,7 @@
 -- What the vectors of lines, inserted one after the other, tell of the lines.
 use Rattle.std.proofs.Common.{◌≡◌, ℕ, zero, suc, ◌+◌, ◌*◌, ◌-◌, ◌<◌, ◌≤◌, List, [], ◌∷◌, ◌++◌, length, take, drop, get_or, refl, sym, ap, ap₂, ◌∙◌, subst, arith, append_assoc, length-append, length-drop, take_all, drop-cons, add-one, All}
 use Rattle.std.proofs.lemmas.List.{length-replicate, take_more, take-append-drop}
-use Rattle.std.proofs.lemmas.List.Elements.{All-head, All-tail, All-append, All-cons, All-nil, All-push, All-take, All-drop, All-replicate}
+use Rattle.std.proofs.lemmas.List.Elements.{All-get_or, All-head, All-tail, All-append, All-cons, All-nil, All-push, All-take, All-drop, All-replicate}
 use Rattle.field_core.specs.Matrix.{Matrix}
 use Rattle.linear_algebra.specs.Scalars.{Scalars, IsScalar, IsField}
 use Rattle.linear_algebra.specs.Vectors.{IsVector, AreVectors, zero_vector, vector_sum, multiple}
@@ -12,10 +12,12 @@ use Rattle.linear_algebra.proofs.Combinations.{combination-append, combination-m
 use Rattle.echelon.specs.Inserted.{Inserts}
 use Rattle.echelon.specs.declared.basis.Inserted.TheVariants.{New}
 use Rattle.parity_lines.proofs.Border.{vectors_at-vectors}
+use Rattle.parity_lines.proofs.LinePairs.{line_at_vectors}
 use Rattle.echelon.proofs.Growing.{independent_more}
 use Rattle.parity_lines.proofs.Growth.{vectors_at-push}
 use Rattle.parity_lines.specs.Problems.{ParityProblem, IsProblem, line_at, vectors_at}
 use Rattle.parity_lines.specs.Relations.{IsDifference, IsMonicRelation}
+use Rattle.parity_lines.specs.FirstLines.{HasFirstLines}
 use Rattle.parity_lines.specs.Independence.{IsRelation}
 
 module _ (S : Scalars) (F : IsField S) where
@@ -92,31 +94,35 @@ module _ (p : ParityProblem) where
       ap (vectors_at p) (sym (take-append-drop i M) ∙ ap (λ xs. take i M ++ xs) (drop-cons M i 0 h ∙ ap₂ (λ x n. x ∷ drop n M) (sym e) (sym (add-one i))))
       ∙ vectors_at-append (take i M) (m ∷ drop (i + 1) M) ∙ ap₂ (λ x y. vectors_at p (take i M) ++ x ∷ y ∷ vectors_at p (drop (i + 1) M)) (sym is_u) (sym is_v)
 
-module _ (S : Scalars) (F : IsField S) (p : ParityProblem) (P : IsProblem S p) (M : List ℕ) (within : All (λ m. m < length p.lines) M) where
-  -- the basis has the vectors of the first i lines, and they are independent
-  abbrev pub HasFirstLines : ℕ → Matrix → Type 0
-  HasFirstLines i basis = record {
-    width : basis.width ≡ p.dimension;
-    rows : basis.rows ≡ vectors_at p (take i M);
-    independent : IsIndependent S basis.width basis.rows;
-  }
+module _ (S : Scalars) (p : ParityProblem) (M : List ℕ) where
+  pub no_lines : (basis : Matrix) → basis ≡ record { width = p.dimension; rows = [] } → HasFirstLines S p M 0 basis
+  unfolding vectors_at combination
+  no_lines basis e = subst (HasFirstLines S p M 0) (sym e) (record { width = refl; rows = refl; independent = λ cs c. none cs c.one_each.length_is })
+    where
+      none : (cs : List ℕ) → length cs ≡ 0 → cs ≡ []
+      none [] l = refl
+      none (c ∷ cs) l = absurd (omega arith)
 
+  -- all lines were inserted
+  pub all_lines : (i : ℕ) (basis : Matrix) → length M ≤ i → HasFirstLines S p M i basis → IsIndependent S p.dimension (vectors_at p M)
+  all_lines i basis l h = subst (λ (vs : List (List ℕ)). IsIndependent S p.dimension vs) (h.rows ∙ ap (vectors_at p) (take_all i M l)) (subst (λ d. IsIndependent S d basis.rows) h.width h.independent)
+
+  pub whole_basis : (i : ℕ) (basis : Matrix) → length M ≤ i → HasFirstLines S p M i basis → basis ≡ record { width = p.dimension; rows = vectors_at p M }
+  whole_basis i basis l h = ap₂ (λ (n : ℕ) (rows : List (List ℕ)). let m : Matrix = record { width = n; rows = rows } in m) h.width (h.rows ∙ ap (vectors_at p) (take_all i M l))
+
+module _ (S : Scalars) (F : IsField S) (p : ParityProblem) (P : IsProblem S p) (M : List ℕ) (within : All (λ m. m < length p.lines) M) where
   front_vectors : (i : ℕ) → AreVectors S p.dimension (vectors_at p (take i M))
   front_vectors i = vectors_at-vectors S p P (take i M) (All-take (λ m. m < length p.lines) i M within)
 
   back_vectors : (i : ℕ) → AreVectors S p.dimension (vectors_at p (drop i M))
   back_vectors i = vectors_at-vectors S p P (drop i M) (All-drop (λ m. m < length p.lines) i M within)
 
-  rows_vectors : (i : ℕ) (basis : Matrix) → HasFirstLines i basis → AreVectors S basis.width basis.rows
+  rows_vectors : (i : ℕ) (basis : Matrix) → HasFirstLines S p M i basis → AreVectors S basis.width basis.rows
   rows_vectors i basis h = subst (λ d. AreVectors S d basis.rows) (sym h.width) (subst (AreVectors S p.dimension) (sym h.rows) (front_vectors i))
 
-  pub no_lines : (basis : Matrix) → basis ≡ record { width = p.dimension; rows = [] } → HasFirstLines 0 basis
-  unfolding vectors_at combination
-  no_lines basis e = subst (HasFirstLines 0) (sym e) (record { width = refl; rows = refl; independent = λ cs c. none cs c.one_each.length_is })
-    where
-      none : (cs : List ℕ) → length cs ≡ 0 → cs ≡ []
-      none [] l = refl
-      none (c ∷ cs) l = absurd (omega arith)
+  -- the second vector of the line at an index
+  pub second_in : (i m : ℕ) → i < length M → m ≡ get_or M i 0 → IsVector S p.dimension (line_at p m).1
+  second_in i m h is = (line_at_vectors S p m P (subst (λ k. k < length p.lines) (sym is) (All-get_or (λ k. k < length p.lines) M i 0 h within))).1
 
   -- the vectors of the lines behind the one at an index
   abbrev behind : ℕ → List (List ℕ)
@@ -126,14 +132,14 @@ module _ (S : Scalars) (F : IsField S) (p : ParityProblem) (P : IsProblem S p) (
   behind_long i = length-vectors_at p (drop (i + 1) M) ∙ ap (λ n. 2 * n) (length-drop (i + 1) M ∙ omega arith)
 
   module _ (X : Type 0) (i m : ℕ) (u v : List ℕ) (now mid : Matrix) (h : i < length M) (is : m ≡ get_or M i 0) (is_u : u ≡ (line_at p m).0) (is_v : v ≡ (line_at p m).1)
-      (u_in : IsVector S p.dimension u) (v_in : IsVector S p.dimension v) (before : HasFirstLines i now) where
+      (u_in : IsVector S p.dimension u) (v_in : IsVector S p.dimension v) (before : HasFirstLines S p M i now) where
     -- the first vector is in the span of those before
-    pub first_is_old : (cs r : List ℕ) (n : ℕ) → n ≡ 1 + 2 * (length M - i - 1) → Combines S now.width now.rows cs u → IsMonicRelation S cs n r → IsRelation S p.dimension (vectors_at p M) r
-    first_is_old cs r n e c k =
+    pub first_is_old : (cs shown r : List ℕ) (long : ℕ) → long ≡ length M → shown ≡ cs → Combines S now.width now.rows cs u → IsMonicRelation S shown (1 + 2 * (long - i - 1)) r → IsRelation S p.dimension (vectors_at p M) r
+    first_is_old cs shown r long e is_cs c k =
         let combine = subst (λ (vs : List (List ℕ)). Combines S p.dimension vs cs u) before.rows (subst (λ d. Combines S d now.rows cs u) before.width c) in
         subst (λ (vs : List (List ℕ)). IsRelation S p.dimension vs r) (sym (around_line p M i m u v h is is_u is_v))
         (relation_found S F p.dimension (vectors_at p (take i M)) u (v ∷ behind i) cs (front_vectors i) u_in (All-cons (IsVector S p.dimension) v (behind i) v_in (back_vectors (i + 1))) combine r
-        (subst (λ l. IsMonicRelation S cs l r) (let l = behind_long i in omega arith) k))
+        (subst (λ xs. IsMonicRelation S xs (length (v ∷ behind i)) r) is_cs (subst (λ l. IsMonicRelation S shown l r) (let l = behind_long i in omega arith) k)))
 
     mid_rows : Inserts {X = X} S now u mid New → mid.rows ≡ vectors_at p (take i M) ++ u ∷ []
     mid_rows b = ap (λ (m : Matrix). m.rows) b.1 ∙ ap (λ (vs : List (List ℕ)). vs ++ u ∷ []) before.rows
@@ -142,16 +148,16 @@ module _ (S : Scalars) (F : IsField S) (p : ParityProblem) (P : IsProblem S p) (
     mid_width b = ap (λ (m : Matrix). m.width) b.1 ∙ before.width
 
     -- the second is, with the first
-    pub second_is_old : (cs r : List ℕ) (n : ℕ) → n ≡ 2 * (length M - i - 1) → Inserts {X = X} S now u mid New → Combines S mid.width mid.rows cs v → IsMonicRelation S cs n r → IsRelation S p.dimension (vectors_at p M) r
-    second_is_old cs r n e b c k =
+    pub second_is_old : (cs shown r : List ℕ) (long : ℕ) → long ≡ length M → shown ≡ cs → Inserts {X = X} S now u mid New → Combines S mid.width mid.rows cs v → IsMonicRelation S shown (0 + 2 * (long - i - 1)) r → IsRelation S p.dimension (vectors_at p M) r
+    second_is_old cs shown r long e is_cs b c k =
         let vs = vectors_at p (take i M) in
         let combine = subst (λ (ws : List (List ℕ)). Combines S p.dimension ws cs v) (mid_rows b) (subst (λ d. Combines S d mid.rows cs v) (mid_width b) c) in
         subst (λ (ws : List (List ℕ)). IsRelation S p.dimension ws r) (append_assoc vs (u ∷ []) (v ∷ behind i) ∙ sym (around_line p M i m u v h is is_u is_v))
         (relation_found S F p.dimension (vs ++ u ∷ []) v (behind i) cs (All-push (IsVector S p.dimension) vs u (front_vectors i) u_in) v_in (back_vectors (i + 1)) combine r
-        (subst (λ l. IsMonicRelation S cs l r) (e ∙ sym (behind_long i)) k))
+        (subst (λ xs. IsMonicRelation S xs (length (behind i)) r) is_cs (subst (λ l. IsMonicRelation S shown l r) (let l = behind_long i in omega arith) k)))
 
     -- both are new
-    pub line_is_new : (after : Matrix) → Inserts {X = X} S now u mid New → Inserts {X = X} S mid v after New → HasFirstLines (i + 1) after
+    pub line_is_new : (after : Matrix) → Inserts {X = X} S now u mid New → Inserts {X = X} S mid v after New → HasFirstLines S p M (i + 1) after
     line_is_new after b a =
         let now_in = rows_vectors i now before in
         let u_now = subst (λ d. IsVector S d u) (sym before.width) u_in in
@@ -165,7 +171,3 @@ module _ (S : Scalars) (F : IsField S) (p : ParityProblem) (P : IsProblem S p) (
               ∙ sym (ap (vectors_at p) (take_more M i 0 h ∙ ap (λ k. take i M ++ k ∷ []) (sym is)) ∙ vectors_at-push p (take i M) m ∙ ap₂ (λ x y. (vectors_at p (take i M) ++ x ∷ []) ++ y ∷ []) (sym is_u) (sym is_v));
           independent = independent_more S F {X = X} mid mid after v New mid_in v_mid mid_independent a;
         }
-
-  -- all lines were inserted
-  pub all_lines : (i : ℕ) (basis : Matrix) → length M ≤ i → HasFirstLines i basis → IsIndependent S p.dimension (vectors_at p M)
-  all_lines i basis l h = subst (λ (vs : List (List ℕ)). IsIndependent S p.dimension vs) (h.rows ∙ ap (vectors_at p) (take_all i M l)) (subst (λ d. IsIndependent S d basis.rows) h.width h.independent)

@@ -39,18 +39,28 @@ module _ (S : Scalars) (F : IsField S) where
       F.one≢zero (sym (F.sum-zero S.one F.one_in) ∙ ap (S.sum S.one) (sym is_minus) ∙ d.minus_one)
 
 module _ (S : Scalars) where
-  -- two more zeros
-  pub zeros_more : {X : Type 0} (f : X → ℕ) (first : List ℕ) (now mid after : List X) (a b : X) (n : ℕ) → map f now ≡ first ++ zero_vector S (2 * n) → mid ≡ now ++ a ∷ [] → after ≡ mid ++ b ∷ [] → f a ≡ S.zero → f b ≡ S.zero →
-      map f after ≡ first ++ zero_vector S (2 * (n + 1))
-  zeros_more f first now mid after a b n so_far is_mid is_after is_a is_b =
-      ap (map f) (is_after ∙ ap (λ xs. xs ++ b ∷ []) is_mid) ∙ map-append f (now ++ a ∷ []) (b ∷ []) ∙ ap (λ xs. xs ++ f b ∷ []) (map-append f now (a ∷ []))
-      ∙ ap₂ (λ x y. (map f now ++ x ∷ []) ++ y ∷ []) is_a is_b
-      ∙ append_assoc (map f now) (S.zero ∷ []) (S.zero ∷ [])
-      ∙ ap (λ xs. xs ++ zero_vector S 2) so_far ∙ append_assoc first (zero_vector S (2 * n)) (zero_vector S 2)
-      ∙ ap (λ xs. first ++ xs) (replicate-append-replicate (2 * n) 2 S.zero ∙ ap (zero_vector S) (omega arith))
+  -- one more zero
+  pub zeros_more : {X : Type 0} (f : X → ℕ) (first : List ℕ) (now after : List X) (a : X) (n : ℕ) → map f now ≡ first ++ zero_vector S n → after ≡ now ++ a ∷ [] → f a ≡ S.zero → map f after ≡ first ++ zero_vector S (n + 1)
+  zeros_more f first now after a n so_far is_after is_a =
+      ap (map f) is_after ∙ map-append f now (a ∷ []) ∙ ap₂ (λ xs x. xs ++ x ∷ []) so_far is_a
+      ∙ append_assoc first (zero_vector S n) (zero_vector S 1) ∙ ap (λ xs. first ++ xs) (replicate-append-replicate n 1 S.zero)
 
   -- the zeros of the vector's own line, and of the others
-  pub padded : (cs joined : List ℕ) (minus m n : ℕ) → joined ≡ (cs ++ minus ∷ []) ++ zero_vector S m → joined ++ zero_vector S n ≡ cs ++ minus ∷ zero_vector S (m + n)
-  padded cs joined minus m n e =
-      ap (λ xs. xs ++ zero_vector S n) e ∙ append_assoc (cs ++ minus ∷ []) (zero_vector S m) (zero_vector S n) ∙ ap (λ xs. (cs ++ minus ∷ []) ++ xs) (replicate-append-replicate m n S.zero)
-      ∙ append_assoc cs (minus ∷ []) (zero_vector S (m + n))
+  padded : {X : Type 0} (f : X → ℕ) (cs items now own : List X) (minus : X) (half whole : List ℕ) (m n : ℕ) → items ≡ cs → now ≡ items ++ minus ∷ [] → map f own ≡ map f now ++ zero_vector S m → half ≡ map f own ++ zero_vector S n → whole ≡ half ++ zero_vector S n
+      → whole ≡ map f cs ++ f minus ∷ zero_vector S (m + 2 * n)
+  padded f cs items now own minus half whole m n is_items is_now is_own is_half is_whole =
+      is_whole ∙ ap (λ xs. xs ++ zero_vector S n) (is_half ∙ ap (λ xs. xs ++ zero_vector S n) (is_own ∙ ap (λ xs. xs ++ zero_vector S m) (ap (map f) (is_now ∙ ap (λ xs. xs ++ minus ∷ []) is_items) ∙ map-append f cs (minus ∷ []))))
+      ∙ ap (λ xs. xs ++ zero_vector S n) (append_assoc (map f cs ++ f minus ∷ []) (zero_vector S m) (zero_vector S n) ∙ ap (λ xs. (map f cs ++ f minus ∷ []) ++ xs) (replicate-append-replicate m n S.zero))
+      ∙ append_assoc (map f cs ++ f minus ∷ []) (zero_vector S (m + n)) (zero_vector S n) ∙ ap (λ xs. (map f cs ++ f minus ∷ []) ++ xs) (replicate-append-replicate (m + n) n S.zero)
+      ∙ append_assoc (map f cs) (f minus ∷ []) (zero_vector S (m + n + n)) ∙ ap (λ k. map f cs ++ f minus ∷ zero_vector S k) (omega arith)
+
+  -- the difference, from what was put in one after the other
+  pub difference_made : {X : Type 0} (f : X → ℕ) (cs none items now own last shown : List X) (one minus : X) (half row : List ℕ) (m n : ℕ) → IsScalar S (f minus) → f one ≡ S.one → S.sum (f one) (f minus) ≡ S.zero
+      → none ≡ [] → items ≡ none ++ cs → now ≡ items ++ minus ∷ [] → map f own ≡ map f now ++ zero_vector S m → half ≡ map f own ++ zero_vector S n → map f last ≡ half ++ zero_vector S n → shown ≡ last → row ≡ map f shown
+      → IsDifference S (map f cs) (m + 2 * n) row
+  difference_made f cs none items now own last shown one minus half row m n minus_in is_one is_minus is_none is_items is_now is_own is_half is_last is_shown is_row = record {
+    minus = f minus;
+    minus_in = minus_in;
+    minus_one = ap (λ a. S.sum a (f minus)) (sym is_one) ∙ is_minus;
+    is = is_row ∙ ap (map f) is_shown ∙ padded f cs items now own minus half (map f last) m n (is_items ∙ ap (λ xs. xs ++ cs) is_none) is_now is_own is_half is_last;
+  }

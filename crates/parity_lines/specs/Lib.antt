@@ -4,4 +4,5 @@ pub mod Certificates
 pub mod Shown
 pub mod PartLists
 pub mod Independence
+pub mod FirstLines
 pub mod Relations

@@ -1,7 +1,9 @@
 //! Whether a set of lines is independent.
 
-ghost use Rattle.std.specs.Prelude.{◌≡◌, ◌≢◌, ◌<◌, ◌+◌, ◌*◌, ◌++◌, ℕ, All, IfOk, MatchOption, cond, length, map};
-ghost use Rattle.parity_lines.specs.Independence.{TellsIndependence, TellsBasis};
+ghost use Rattle.std.specs.Prelude.{◌≡◌, ◌≢◌, ◌<◌, ◌+◌, ◌*◌, ◌++◌, ℕ, All, IfOk, MatchOption, length, map};
+ghost use Rattle.parity_lines.specs.FirstLines.{HasFirstLines};
+ghost use Rattle.parity_lines.specs.Independence.{IsRelation, TellsIndependence, TellsBasis};
+ghost use Rattle.parity_lines.specs.Problems.{vectors_at};
 ghost use Rattle.parity_lines.specs.Relations.{IsDifference, IsLeadInverse, IsMonicMultiple, IsMonicRelation};
 ghost use Rattle.linear_algebra.specs.Vectors.{zero_vector};
 
@@ -19,35 +21,33 @@ pub enum Independence<F: Field> {
     Relation(Row<F>),
 }
 
-/// Puts two zeros behind for each of `pairs`.
-fn push_zero_pairs<F: Field>(entries: &mut Vec<F>, pairs: usize) -> Result<(), AllocError>
-    ensures { IfOk result (λ _. map F.number entries.new.items ≡ map F.number entries.old.items ++ zero_vector F.scalars (2 * pairs)) }
+/// Puts so many zeros behind.
+fn push_zeros<F: Field>(entries: &mut Vec<F>, count: usize) -> Result<(), AllocError>
+    ensures { IfOk result (λ _. map F.number entries.new.items ≡ map F.number entries.old.items ++ zero_vector F.scalars count) }
 {
-    for _pair in 0..pairs {
-        entries.push(F::zero())?;
+    for _zero in 0..count {
         entries.push(F::zero())?;
     }
     Ok(())
 }
 
 /// The relation in which the vector after those with these coefficients is taken away: the coefficients, minus
-/// one, and zeros for the other vectors. Behind the vector come the second of its line, where it is the first,
-/// and two for each of the lines left.
+/// one, and zeros for the other vectors. Behind the vector come those of its line that are left, and two for each
+/// of the lines left.
 fn difference<F: Field>(
     alloc: Global,
     coefficients: &[F],
-    is_first: bool,
+    own_left: usize,
     lines_left: usize,
 ) -> Result<Row<F>, AllocError>
-    ensures { IfOk result (IsDifference F.scalars (map F.number coefficients.now) (cond is_first 1 0 + 2 * lines_left)) }
+    ensures { IfOk result (IsDifference F.scalars (map F.number coefficients.now) (own_left + 2 * lines_left)) }
 {
     let mut entries = Vec::new(alloc);
     entries.extend_from_slice(coefficients)?;
     entries.push(F::one().neg())?;
-    if is_first {
-        entries.push(F::zero())?;
-    }
-    push_zero_pairs(&mut entries, lines_left)?;
+    push_zeros(&mut entries, own_left)?;
+    push_zeros(&mut entries, lines_left)?;
+    push_zeros(&mut entries, lines_left)?;
     Row::copy_of(alloc, &entries)
 }
 
@@ -77,12 +77,12 @@ fn make_monic<F: Field>(row: &mut Row<F>)
 fn relation<F: Field>(
     alloc: Global,
     coefficients: &[F],
-    is_first: bool,
+    own_left: usize,
     lines_left: usize,
 ) -> Result<Row<F>, AllocError>
-    ensures { IfOk result (IsMonicRelation F.scalars (map F.number coefficients.now) (cond is_first 1 0 + 2 * lines_left)) }
+    ensures { IfOk result (IsMonicRelation F.scalars (map F.number coefficients.now) (own_left + 2 * lines_left)) }
 {
-    let mut row = difference(alloc, coefficients, is_first, lines_left)?;
+    let mut row = difference(alloc, coefficients, own_left, lines_left)?;
     make_monic(&mut row);
     Ok(row)
 }
@@ -96,6 +96,34 @@ pub enum LineBasis<F: Field> {
     Relation(Row<F>),
 }
 
+/// Takes both vectors of the line at an index of the set, where the basis took those of the lines before it. Where
+/// one is spanned already, a relation of all lines' vectors is answered.
+fn take_line<F: Field>(
+    alloc: Global,
+    problem: &Problem<F>,
+    set: &LineSet,
+    i: usize,
+    basis: &mut Echelon<F>,
+) -> Result<Option<Row<F>>, AllocError>
+    requires within { All (λ m. m < length problem.now.lines) set.now }
+    requires index { i < length set.now }
+    requires before { HasFirstLines F.scalars problem.now set.now i basis.old }
+    ensures { IfOk result (λ found. MatchOption found
+        (HasFirstLines F.scalars problem.now set.now (i + 1) basis.new)
+        (IsRelation F.scalars problem.now.dimension (vectors_at problem.now set.now))) }
+{
+    let _lines = problem.len();
+    let line = set.at(i);
+    let left = set.len() - i - 1;
+    if let Inserted::Old(coefficients) = basis.insert(problem.first(line))? {
+        return Ok(Some(relation(alloc, coefficients.as_slice(), 1, left)?));
+    }
+    if let Inserted::Old(coefficients) = basis.insert(problem.second(line))? {
+        return Ok(Some(relation(alloc, coefficients.as_slice(), 0, left)?));
+    }
+    Ok(None)
+}
+
 /// The basis that took the vectors of the lines, two a line in order, where they are independent.
 pub fn basis_of_lines<F: Field>(
     alloc: Global,
@@ -105,16 +133,10 @@ pub fn basis_of_lines<F: Field>(
     requires { All (λ m. m < length problem.now.lines) set.now }
     ensures { IfOk result (TellsBasis F.scalars problem.now set.now) }
 {
-    let _lines = problem.len();
     let mut basis = Echelon::new(alloc, problem.dimension())?;
     for i in 0..set.len() {
-        let line = set.at(i);
-        let left = set.len() - i - 1;
-        if let Inserted::Old(coefficients) = basis.insert(problem.first(line))? {
-            return Ok(LineBasis::Relation(relation(alloc, coefficients.as_slice(), true, left)?));
-        }
-        if let Inserted::Old(coefficients) = basis.insert(problem.second(line))? {
-            return Ok(LineBasis::Relation(relation(alloc, coefficients.as_slice(), false, left)?));
+        if let Some(relation) = take_line(alloc, problem, set, i, &mut basis)? {
+            return Ok(LineBasis::Relation(relation));
         }
     }
     Ok(LineBasis::Basis(basis))

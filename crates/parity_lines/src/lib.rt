@@ -14,8 +14,6 @@ mod line_set;
 mod parts;
 mod problem;
 mod ranks;
-#[cfg(test)]
-mod tests;
 
 pub use answer::{Answer, Certificate};
 pub use independence::{Independence, LineBasis, basis_of_lines, is_independent};

@@ -45,18 +45,18 @@ impl LineSet {
     }
 
     /// The same set.
-    pub fn copied(&self, alloc: Global) -> Result<LineSet, AllocError>
+    pub fn copied(&self) -> Result<LineSet, AllocError>
         ensures { IfOk result (λ copy. copy ≡ self.now) }
     {
-        let lines = self.lines.iter().copied().collect(alloc)?;
+        let lines = self.lines.iter().copied().collect(*self.lines.allocator())?;
         Ok(LineSet { lines })
     }
 
     /// The set with the line.
-    pub fn with(&self, alloc: Global, line: usize) -> Result<LineSet, AllocError>
+    pub fn with(&self, line: usize) -> Result<LineSet, AllocError>
         ensures { IfOk result (λ set. IsStrictlyIncreasing set × ((l : ℕ) → Contains set l ↔ (Contains self.now l ⊎ (l ≡ line)))) }
     {
-        let mut lines: Vec<usize> = self.lines.iter().copied().collect(alloc)?;
+        let mut lines: Vec<usize> = self.lines.iter().copied().collect(*self.lines.allocator())?;
         match lines.binary_search(&line) {
             Ok(_) => {}
             Err(place) => lines.insert(place, line)?,
@@ -65,7 +65,7 @@ impl LineSet {
     }
 
     /// The set without the line.
-    pub fn without(&self, alloc: Global, line: usize) -> Result<LineSet, AllocError>
+    pub fn without(&self, line: usize) -> Result<LineSet, AllocError>
         ensures { IfOk result (λ set. IsStrictlyIncreasing set × ((l : ℕ) → Contains set l ↔ (Contains self.now l × (l ≢ line)))) }
     {
         let lines = self
@@ -73,7 +73,7 @@ impl LineSet {
             .iter()
             .copied()
             .filter(|l| *l != line)
-            .collect(alloc)?;
+            .collect(*self.lines.allocator())?;
         Ok(LineSet { lines })
     }
 

@@ -1,7 +1,7 @@
 //! Subspaces with reduced echelon bases, and the division by a point.
 //!
 //! [`Subspace`] is seen as its reduced echelon basis (`IsReducedBasis` in `specs/ReducedBases.antt`), which is the
-//! only one (`reduced_bases_are_unique`). [`spanned`], `sum` and `intersect` say which vectors the subspace has
+//! only one (`reduced_bases_are_unique`). `spanned`, `sum` and `intersect` say which vectors the subspace has
 //! (`HasElements` in `specs/Subspaces.antt`), `contains` whether a vector is one of them. A basis is reduced by
 //! residues: a unit vector less its residue is the row at its position (`proofs/Reduced.antt`). For a meeting the
 //! vectors of one subspace are put behind a basis of the other; those that are spanned have a part in it, and
@@ -10,15 +10,11 @@
 #![tactic(auto)]
 
 mod laws;
-#[cfg(test)]
-mod made;
 mod meeting;
 mod quotient;
 mod reduction;
 mod subspace;
-#[cfg(test)]
-mod tests;
 
 pub use laws::reduced_bases_are_unique;
-pub use quotient::{Quotient, quotient_by};
-pub use subspace::{Subspace, spanned};
+pub use quotient::Quotient;
+pub use subspace::Subspace;

@@ -65,22 +65,22 @@ fn clearing<F: Field>(x: F, y: F) -> F
     }
 }
 
-/// The division by the point, which isn't zero.
-pub fn quotient_by<F: Field>(alloc: Global, point: &[F]) -> Result<Quotient<F>, AllocError>
-    requires { map F.number point.now ≢ zero_vector F.scalars (length point.now) }
-    ensures { IfOk result (λ q. q ≡ map F.number point.now) }
-{
-    match first_nonzero(point) {
-        Some(pivot) => Ok(Quotient {
-            alloc,
-            point: Row::copy_of(alloc, point)?,
-            pivot,
-        }),
-        None => unreachable!(),
-    }
-}
-
 impl<F: Field> Quotient<F> {
+    /// The division by the point, which isn't zero.
+    pub fn quotient_by(alloc: Global, point: &[F]) -> Result<Quotient<F>, AllocError>
+        requires { map F.number point.now ≢ zero_vector F.scalars (length point.now) }
+        ensures { IfOk result (λ q. q ≡ map F.number point.now) }
+    {
+        match first_nonzero(point) {
+            Some(pivot) => Ok(Quotient {
+                alloc,
+                point: Row::copy_of(alloc, point)?,
+                pivot,
+            }),
+            None => unreachable!(),
+        }
+    }
+
     /// The vector modulo the point: the multiple of the point is added that makes it zero at the first coordinate at
     /// which the point isn't, and that coordinate is left out.
     pub fn project(&self, v: &[F]) -> Result<Row<F>, AllocError>

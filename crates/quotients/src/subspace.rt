@@ -2,6 +2,7 @@
 
 ghost use Rattle.std.specs.Prelude.{◌≡◌, ◌↔◌, ◌++◌, IfOk, OnOk, IsTrue, length, map};
 ghost use Rattle.linear_algebra.specs.Spans.{InSpan, IsIndependent};
+ghost use Rattle.linear_algebra.specs.Ranks.{rank as rank_of};
 ghost use Rattle.quotients.specs.ReducedBases.{IsReducedBasis};
 ghost use Rattle.quotients.specs.Subspaces.{HasElements};
 
@@ -42,22 +43,22 @@ fn append<F: Field>(rows: &mut Rows<F>, others: &Rows<F>) -> Result<(), AllocErr
     Ok(())
 }
 
-/// The span of the vectors.
-pub fn spanned<F: Field>(
-    alloc: Global,
-    dimension: usize,
-    vectors: &Rows<F>,
-) -> Result<Subspace<F>, AllocError>
-    requires { vectors.now.width ≡ dimension }
-    ensures width { IfOk result (λ s. s.width ≡ dimension) }
-    ensures spans { IfOk result (λ s. HasElements F.scalars s (InSpan F.scalars dimension vectors.now.rows)) }
-{
-    let span = basis_of(alloc, vectors)?;
-    let basis = reduced_basis(alloc, &span, dimension)?;
-    Ok(Subspace { alloc, basis, span })
-}
-
 impl<F: Field> Subspace<F> {
+    /// The span of the vectors.
+    pub fn spanned(
+        alloc: Global,
+        dimension: usize,
+        vectors: &Rows<F>,
+    ) -> Result<Subspace<F>, AllocError>
+        requires { vectors.now.width ≡ dimension }
+        ensures width { IfOk result (λ s. s.width ≡ dimension) }
+        ensures spans { IfOk result (λ s. HasElements F.scalars s (InSpan F.scalars dimension vectors.now.rows)) }
+    {
+        let span = basis_of(alloc, vectors)?;
+        let basis = reduced_basis(alloc, &span, dimension)?;
+        Ok(Subspace { alloc, basis, span })
+    }
+
     /// The reduced echelon basis: each row leads with one at its pivot, no other row has an entry there, and the
     /// pivots increase. A subspace has one such basis alone (`reduced_bases_are_unique`).
     pub fn basis(&self) -> &Rows<F>
@@ -70,7 +71,8 @@ impl<F: Field> Subspace<F> {
 
     /// How many vectors a basis has.
     pub fn rank(&self) -> usize
-        ensures { result ≡ length self.now.rows }
+        ensures value { result ≡ length self.now.rows }
+        ensures rank { result ≡ rank_of F.scalars self.now.width self.now.rows }
     {
         self.basis.len()
     }
@@ -91,7 +93,7 @@ impl<F: Field> Subspace<F> {
         let mut vectors = Rows::new(self.alloc, self.basis.width());
         append(&mut vectors, &self.basis)?;
         append(&mut vectors, &other.basis)?;
-        spanned(self.alloc, self.basis.width(), &vectors)
+        Subspace::spanned(self.alloc, self.basis.width(), &vectors)
     }
 
     /// The subspace of the vectors that are in both.
@@ -101,7 +103,7 @@ impl<F: Field> Subspace<F> {
         ensures meets { IfOk result (λ s. HasElements F.scalars s (λ x. InSpan F.scalars self.now.width self.now.rows x × InSpan F.scalars self.now.width other.now.rows x)) }
     {
         let vectors = meeting(self.alloc, &self.basis, &other.basis)?;
-        spanned(self.alloc, self.basis.width(), &vectors)
+        Subspace::spanned(self.alloc, self.basis.width(), &vectors)
     }
 
     /// Tells whether the vector is in the subspace.

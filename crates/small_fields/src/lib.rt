@@ -24,10 +24,6 @@ mod modulo_251;
 mod modulo_3;
 mod modulo_5;
 mod residue;
-#[cfg(test)]
-mod row_tests;
-#[cfg(test)]
-mod tests;
 
 pub use byte::F256;
 pub use field_name::FieldName;

@@ -1,8 +1,8 @@
-use Rattle.std.proofs.Common.{◌≤◌, length, take, sym, ap, ◌∙◌, subst, arith, List, ℕ}
+use Rattle.std.proofs.Common.{◌≤◌, length, take, ap, ◌∙◌, arith, List, ℕ}
 use Rattle.field_core.specs.Matrix.{Matrix}
-use Rattle.echelon.specs.Steps.{IsEchelon, taken}
+use Rattle.echelon.specs.Steps.{taken}
 use Rattle.echelon.proofs.Insertion.{length-taken}
-use Rattle.echelon.proofs.Prefixes.{prefix_is_echelon, taken-take}
+use Rattle.echelon.proofs.Prefixes.{kept_is_echelon, taken-take}
 use Rattle.echelon.proofs.basis.Echelon.truncate.Goals as goal
 
 pub invariant_of-self : goal.invariant_of-self
@@ -10,7 +10,7 @@ invariant_of-self g c =
     let ss = c.self.inside.steps.items in
     let as_many = ap (λ (m : Matrix). length m.rows) c.self.view_is in
     let short : c.args.rank ≤ length ss = (let e = length-taken ss in let r = c.requires in omega arith) in
-    subst (IsEchelon g.F.Field.scalars c.self.inside.dimension) (sym c.truncate.ensures.items) (prefix_is_echelon g.F.Field.scalars g.met.F.Field.lawful c.self.inside.dimension ss c.args.rank short c.self.invariant)
+    kept_is_echelon g.F.Field.scalars g.met.F.Field.lawful c.self.inside.dimension ss c.truncate.new.self.items c.args.rank c.truncate.ensures.items short c.self.invariant
 
 pub returns : goal.returns
 returns g c =

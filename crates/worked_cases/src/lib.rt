@@ -1,0 +1,21 @@
+//! Worked cases of the crates below: problems, answers and choices as texts, and what each call gives of them.
+//!
+//! There is no code here but tests. What they expect comes from outside: from paper, and never from a run.
+#![tactic(auto)]
+
+#[cfg(test)]
+mod bases;
+#[cfg(test)]
+mod fields;
+#[cfg(test)]
+mod places;
+#[cfg(test)]
+mod reading;
+#[cfg(test)]
+mod rows;
+#[cfg(test)]
+mod sets;
+#[cfg(test)]
+mod subspaces;
+#[cfg(test)]
+mod verdicts;

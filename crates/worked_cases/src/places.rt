@@ -1,0 +1,157 @@
+//! Places of lines over an independent set, coordinates, and steps.
+
+use crate::reading::{choice, problem, shown, shown_set};
+use field_core::Field;
+use matching_state::{Matched, Place, Start};
+use parity_lines::Problem;
+use small_fields::{F2, F3, F5, F256};
+use std::alloc::{AllocError, Global};
+use std::process::Abort;
+use std::test::Fail;
+
+/// The state of the set that a text chooses.
+fn ready<'a, F: Field>(
+    rt: &impl Abort,
+    alloc: Global,
+    problem: &'a Problem<F>,
+    text: &str,
+) -> Result<Matched<'a, F>, AllocError> {
+    match Matched::start(alloc, problem, &choice(rt, alloc, problem, text))? {
+        Start::Ready(state) => Ok(state),
+        Start::Relation(_) => panic!(rt; "the set is independent"),
+    }
+}
+
+/// The place of a line in words, with its support where it is exposed.
+fn place<F: Field>(rt: &impl Abort, state: &Matched<'_, F>, line: usize) -> Result<String, AllocError> {
+    assert!(rt; line < state.problem().len());
+    match state.position(line)? {
+        Place::Inside => String::from_str(state.alloc(), "inside"),
+        Place::Single { .. } => String::from_str(state.alloc(), "single"),
+        Place::Exposed { support, .. } => format!(in state.alloc(); "exposed {}", shown_set(state.alloc(), &support)?),
+        Place::Free => String::from_str(state.alloc(), "free"),
+    }
+}
+
+/// The set that a step makes, or `none`.
+fn step<F: Field>(state: &Matched<'_, F>) -> Result<String, AllocError> {
+    match state.direct_step()? {
+        Some(set) => shown_set(state.alloc(), &set),
+        None => String::from_str(state.alloc(), "none"),
+    }
+}
+
+/// Asserts that the lines have these places, in order, and that the step is one of those that are possible.
+fn assert_places<F: Field>(
+    rt: &impl Abort,
+    alloc: Global,
+    text: &str,
+    chosen: &str,
+    places: &str,
+    steps: &str,
+) -> Result<(), AllocError> {
+    let problem = problem::<F>(rt, alloc, text);
+    let state = ready(rt, alloc, &problem, chosen)?;
+    let mut line = 0;
+    for want in places.split(", ") {
+        assert_eq!(rt; place(rt, &state, line)?.as_str(), want);
+        line += 1;
+    }
+    assert_eq!(rt; line, problem.len());
+    let found = step(&state)?;
+    assert!(rt; steps.split(", ").any(|set| set == found.as_str()), "a step to {found}");
+    Ok(())
+}
+
+/// Three lines, of which the last two can take the place of the first.
+const THREE: &str = "parity 1\nfield 3\ndimension 4\nlines 3\n\
+    line 1 0 0 0 | 0 1 0 0\nline 2 0 0 0 | 0 0 1 0\nline 0 2 0 0 | 0 0 1 1\n";
+
+const FIRST: &str = "choice 1\nsize 1\nset 1\nend\n";
+
+const NONE: &str = "choice 1\nsize 0\nset\nend\n";
+
+#[test]
+fn two_lines_take_the_place_of_one(rt: HostRuntime) -> Result<(), Fail> {
+    assert_places::<F3>(&rt, rt.alloc(), THREE, FIRST, "inside, exposed 1, exposed 1", "2 3")?;
+    Ok(())
+}
+
+/// A plane, a point, parallel vectors within the plane and outside, the plane again, and a line across.
+const DEGENERATE: &str = "parity 1\nfield 5\ndimension 3\nlines 6\n\
+    line 1 0 0 | 0 1 0\nline 0 0 0 | 0 0 0\nline 1 4 0 | 4 1 0\n\
+    line 0 1 3 | 0 2 1\nline 1 0 0 | 0 1 0\nline 1 0 2 | 0 0 3\n";
+
+#[test]
+fn degenerate_lines_have_places(rt: HostRuntime) -> Result<(), Fail> {
+    let alloc = rt.alloc();
+    assert_places::<F5>(
+        &rt,
+        alloc,
+        DEGENERATE,
+        FIRST,
+        "inside, inside, inside, single, inside, exposed 1",
+        "none",
+    )?;
+    assert_places::<F5>(
+        &rt,
+        alloc,
+        DEGENERATE,
+        NONE,
+        "free, inside, single, single, free, free",
+        "1, 5, 6",
+    )?;
+    Ok(())
+}
+
+#[test]
+fn path_has_no_direct_step(rt: HostRuntime) -> Result<(), Fail> {
+    assert_places::<F2>(
+        &rt,
+        rt.alloc(),
+        "parity 1\nfield 2\ndimension 6\nlines 5\n\
+            line 1 0 0 0 0 0 | 0 1 0 0 0 0\nline 0 1 0 0 0 0 | 0 0 1 0 0 0\nline 0 0 1 0 0 0 | 0 0 0 1 0 0\n\
+            line 0 0 0 1 0 0 | 0 0 0 0 1 0\nline 0 0 0 0 1 0 | 0 0 0 0 0 1\n",
+        "choice 1\nsize 2\nset 2 4\nend\n",
+        "exposed 2, inside, inside, inside, exposed 4",
+        "none",
+    )?;
+    Ok(())
+}
+
+#[test]
+fn space_of_no_dimension_has_no_free_line(rt: HostRuntime) -> Result<(), Fail> {
+    let text = "parity 1\nfield 2\ndimension 0\nlines 2\nline |\nline |\n";
+    assert_places::<F2>(&rt, rt.alloc(), text, NONE, "inside, inside", "none")?;
+    Ok(())
+}
+
+#[test]
+fn vectors_have_coordinates(rt: HostRuntime) -> Result<(), Fail> {
+    let alloc = rt.alloc();
+    let three = problem::<F3>(&rt, alloc, THREE);
+    let state = ready(&rt, alloc, &three, FIRST)?;
+    assert_eq!(rt; shown_set(alloc, state.set())?.as_str(), "1");
+    let vectors = problem::<F3>(
+        &rt,
+        alloc,
+        "parity 1\nfield 3\ndimension 4\nlines 1\nline 1 1 0 0 | 1 1 0 1\n",
+    );
+    assert!(rt; vectors.len() == 1 && vectors.dimension() == three.dimension());
+    let inside = state.coordinates(vectors.first(0))?.expect(&rt, "a vector of the span");
+    assert_eq!(rt; shown(alloc, inside.as_slice())?.as_str(), "1 1");
+    assert!(rt; state.coordinates(vectors.second(0))?.is_none());
+    Ok(())
+}
+
+#[test]
+fn dependent_set_has_a_relation(rt: HostRuntime) -> Result<(), Fail> {
+    let alloc = rt.alloc();
+    let text = "parity 1\nfield 256\ndimension 2\nlines 1\nline 83 1 | 1 202\n";
+    let problem = problem::<F256>(&rt, alloc, text);
+    match Matched::start(alloc, &problem, &choice(&rt, alloc, &problem, FIRST))? {
+        Start::Ready(_) => panic!(rt; "the set is dependent"),
+        Start::Relation(row) => assert_eq!(rt; shown(alloc, row.as_slice())?.as_str(), "1 83"),
+    }
+    Ok(())
+}
