@@ -32,7 +32,7 @@ fn larger<F: Field>(state: &Matched<'_, F>, line: usize) -> Result<LineSet, Allo
     ensures { IfOk result (IsLonger F.scalars state.now.problem state.now.set) }
 {
     let _lines = state.problem().len();
-    state.set().with(state.alloc(), line)
+    state.set().with(line)
 }
 
 /// Makes one exchange toward the target: brings in a line of it that isn't in the span of the set and `keep`, and

@@ -11,17 +11,17 @@ ghost use Rattle.parity_lines.specs.LineSets.{IsIndependentSet};
 use field_core::Field;
 use matching_state::{Matched, Start};
 use parity_lines::LineSet;
-use std::alloc::{AllocError, Global};
+use std::alloc::AllocError;
 
 /// The set with `into` in the place of `out`.
-fn swapped(alloc: Global, set: &LineSet, out: usize, into: usize) -> Result<LineSet, AllocError>
+fn swapped(set: &LineSet, out: usize, into: usize) -> Result<LineSet, AllocError>
     requires gone { Contains set.now out }
     requires new { ¬ (Contains set.now into) }
     ensures increasing { IfOk result IsStrictlyIncreasing }
     ensures swap { IfOk result (IsSwap set.now out into) }
 {
-    let rest = set.without(alloc, out)?;
-    rest.with(alloc, into)
+    let rest = set.without(out)?;
+    rest.with(into)
 }
 
 /// Puts the exposed line `into` in the place of `out`, a line of its support. After want of memory the state is
@@ -37,7 +37,7 @@ pub fn swap<F: Field>(state: &mut Matched<'_, F>, out: usize, into: usize) -> Re
 {
     let (alloc, problem) = (state.alloc(), state.problem());
     let _lines = problem.len();
-    let next = swapped(alloc, state.set(), out, into)?;
+    let next = swapped(state.set(), out, into)?;
     match Matched::start(alloc, problem, &next)? {
         Start::Ready(moved) => {
             *state = moved;

@@ -8,6 +8,8 @@ mod bases;
 #[cfg(test)]
 mod fields;
 #[cfg(test)]
+mod overlaps;
+#[cfg(test)]
 mod places;
 #[cfg(test)]
 mod reading;
