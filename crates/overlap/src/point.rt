@@ -1,6 +1,6 @@
 //! The point of an overlap, from the coordinates of both tips.
 
-ghost use Rattle.std.specs.Prelude.{◌≡◌, ◌<◌, ◌+◌, ◌*◌, ℕ, All, IfOk, MatchOption, length, map};
+ghost use Rattle.std.specs.Prelude.{◌≡◌, ◌<◌, ◌+◌, ◌*◌, ◌↔◌, ℕ, All, IfOk, IsTrue, MatchOption, length, map};
 ghost use Rattle.linear_algebra.specs.Spans.{combination};
 ghost use Rattle.parity_lines.specs.Problems.{vectors_at};
 ghost use Rattle.overlap.specs.Pairs.{HasPairAt, AreProportionalAt, IsRatioAt, IsKeptAt, AreKept};
@@ -11,7 +11,15 @@ use matching_state::Matched;
 use parity_lines::{LineSet, Problem};
 use std::alloc::{AllocError, Global};
 
-/// The first index of a pair that isn't zero in either list.
+/// Whether the pair at an index isn't zero.
+fn has_pair<F: Field>(v: &[F], i: usize) -> bool
+    requires { 2 * i + 1 < length v.now }
+    ensures { IsTrue result ↔ HasPairAt F.scalars (map F.number v.now) i }
+{
+    !is_zero(&v[2 * i..2 * i + 2])
+}
+
+/// The first index at which the pairs of both lists aren't zero.
 fn common_index<F: Field>(first: &[F], second: &[F]) -> Option<usize>
     requires { length second.now ≡ length first.now }
     ensures { MatchOption result
@@ -19,7 +27,7 @@ fn common_index<F: Field>(first: &[F], second: &[F]) -> Option<usize>
         (HaveBothAt F.scalars (map F.number first.now) (map F.number second.now)) }
 {
     for i in 0..first.len() / 2 {
-        if !is_zero(&first[2 * i..2 * i + 2]) && !is_zero(&second[2 * i..2 * i + 2]) {
+        if has_pair(first, i) && has_pair(second, i) {
             return Some(i);
         }
     }
@@ -87,6 +95,7 @@ fn combined<F: Field>(
     requires long { length coefficients.now ≡ 2 * length set.now }
     ensures { IfOk result (λ sum. sum ≡ combination F.scalars problem.now.dimension (map F.number coefficients.now) (vectors_at problem.now set.now)) }
 {
+    let _lines = problem.len();
     let mut sum = Row::zeros(alloc, problem.dimension())?;
     for i in 0..set.len() {
         let line = set.at(i);

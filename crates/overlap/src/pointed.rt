@@ -1,12 +1,11 @@
 //! An overlap, with its point.
 
-ghost use Rattle.std.specs.Prelude.{◌≡◌, ◌≢◌, ◌<◌, ◌*◌, ℕ, List, IfOk, None, length, map};
-ghost use Rattle.linear_algebra.specs.Vectors.{zero_vector};
+ghost use Rattle.std.specs.Prelude.{◌≡◌, ◌<◌, List, ℕ, IfOk, None, length, map};
 ghost use Rattle.matching_state.specs.Overlaps.{IsOverlap};
 ghost use Rattle.matching_state.specs.Places.{IsExposed, IsTip};
 ghost use Rattle.matching_state.specs.Steps.{TellsDirectStep};
 ghost use Rattle.parity_lines.specs.LineSets.{IsIndependentSet};
-ghost use Rattle.overlap.specs.PointedOverlaps.{IsOverlapAt, IsSpannedByDependentSets};
+ghost use Rattle.overlap.specs.PointedOverlaps.{IsOverlapAt, IsPoint};
 
 use crate::point::point_of;
 use field_core::{Field, Row};
@@ -116,8 +115,7 @@ impl<'a, F: Field> Overlap<'a, F> {
     pub fn point(&self) -> &[F]
         ensures value { map F.number result.now ≡ self.now.point }
         ensures long { length result.now ≡ self.now.problem.dimension }
-        ensures not_zero { self.now.point ≢ zero_vector F.scalars self.now.problem.dimension }
-        ensures spanned { IsSpannedByDependentSets F.scalars self.now.problem self.now.set self.now.first self.now.second self.now.point }
+        ensures is_point { IsPoint F.scalars self.now.problem self.now.set self.now.first self.now.second self.now.point }
     {
         self.point.as_slice()
     }

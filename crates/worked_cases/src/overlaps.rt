@@ -36,7 +36,10 @@ fn overlap<'a, F: Field>(
     };
     let found = find(state)?.expect(rt, "an overlap");
     let (first, second) = found.lines();
-    assert_eq!(rt; format!(in alloc; "{} {}", first as u128 + 1, second as u128 + 1)?.as_str(), lines);
+    assert_eq!(rt;
+        format!(in alloc; "{} {}", first as u128 + 1, second as u128 + 1)?.as_str(),
+        lines
+    );
     assert_eq!(rt; shown(alloc, found.point())?.as_str(), point);
     let again = at(state, first, second)?;
     assert_eq!(rt; shown(alloc, again.point())?.as_str(), point);
