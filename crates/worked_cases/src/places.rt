@@ -23,19 +23,12 @@ fn ready<'a, F: Field>(
 }
 
 /// The place of a line in words, with its support where it is exposed.
-fn place<F: Field>(
-    rt: &impl Abort,
-    state: &Matched<'_, F>,
-    line: usize,
-) -> Result<String, AllocError> {
+fn place<F: Field>(rt: &impl Abort, state: &Matched<'_, F>, line: usize) -> Result<String, AllocError> {
     assert!(rt; line < state.problem().len());
     match state.position(line)? {
         Place::Inside => String::from_str(state.alloc(), "inside"),
         Place::Single { .. } => String::from_str(state.alloc(), "single"),
-        Place::Exposed { support, .. } => format!(in state.alloc();
-            "exposed {}",
-            shown_set(state.alloc(), &support)?
-        ),
+        Place::Exposed { support, .. } => format!(in state.alloc(); "exposed {}", shown_set(state.alloc(), &support)?),
         Place::Free => String::from_str(state.alloc(), "free"),
     }
 }
@@ -66,10 +59,7 @@ fn assert_places<F: Field>(
     }
     assert_eq!(rt; line, problem.len());
     let found = step(&state)?;
-    assert!(rt;
-        steps.split(", ").any(|set| set == found.as_str()),
-        "a step to {found}"
-    );
+    assert!(rt; steps.split(", ").any(|set| set == found.as_str()), "a step to {found}");
     Ok(())
 }
 
@@ -83,14 +73,7 @@ const NONE: &str = "choice 1\nsize 0\nset\nend\n";
 
 #[test]
 fn two_lines_take_the_place_of_one(rt: HostRuntime) -> Result<(), Fail> {
-    assert_places::<F3>(
-        &rt,
-        rt.alloc(),
-        THREE,
-        FIRST,
-        "inside, exposed 1, exposed 1",
-        "2 3",
-    )?;
+    assert_places::<F3>(&rt, rt.alloc(), THREE, FIRST, "inside, exposed 1, exposed 1", "2 3")?;
     Ok(())
 }
 
@@ -155,9 +138,7 @@ fn vectors_have_coordinates(rt: HostRuntime) -> Result<(), Fail> {
         "parity 1\nfield 3\ndimension 4\nlines 1\nline 1 1 0 0 | 1 1 0 1\n",
     );
     assert!(rt; vectors.len() == 1 && vectors.dimension() == three.dimension());
-    let inside = state
-        .coordinates(vectors.first(0))?
-        .expect(&rt, "a vector of the span");
+    let inside = state.coordinates(vectors.first(0))?.expect(&rt, "a vector of the span");
     assert_eq!(rt; shown(alloc, inside.as_slice())?.as_str(), "1 1");
     assert!(rt; state.coordinates(vectors.second(0))?.is_none());
     Ok(())

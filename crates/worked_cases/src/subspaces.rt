@@ -118,9 +118,7 @@ fn vectors_are_divided_by_a_point(rt: HostRuntime) -> Result<(), Fail> {
     let alloc = rt.alloc();
     let whole = lines::<F3>(&rt, alloc, "dimension 3\nlines 1\nline 0 2 1 | 1 1 1\n");
     let shorter = lines::<F3>(&rt, alloc, "dimension 2\nlines 1\nline 1 2 | 0 0\n");
-    assert!(rt;
-        whole.len() == 1 && whole.dimension() == 3 && shorter.len() == 1 && shorter.dimension() == 2
-    );
+    assert!(rt; whole.len() == 1 && whole.dimension() == 3 && shorter.len() == 1 && shorter.dimension() == 2);
     let point = whole.first(0);
     assert!(rt; !is_zero(point));
     let quotient = Quotient::quotient_by(alloc, point)?;
