@@ -125,11 +125,7 @@ pub enum Found<F: Field> {
 }
 
 /// Reduces a copy of `v`, and tells whether it is in the span.
-pub fn find<F: Field>(
-    alloc: Global,
-    steps: &[Step<F>],
-    v: &[F],
-) -> Result<Found<F>, AllocError>
+pub fn find<F: Field>(alloc: Global, steps: &[Step<F>], v: &[F]) -> Result<Found<F>, AllocError>
     requires { IsEchelon F.scalars (length v.now) steps.now }
     ensures { IfOk result (Finds F.scalars F.number (length v.now) steps.now (map F.number v.now)) }
 {

@@ -1,6 +1,5 @@
 pub mod SpansOfLines
 pub mod SwappedSets
-pub mod NoRelation
 pub mod GrownByRows
 pub mod LinesPassed
 pub mod OffersOfLines

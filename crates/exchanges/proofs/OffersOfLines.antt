@@ -10,7 +10,7 @@ use Rattle.linear_algebra.proofs.Coordinates.{space}
 use Rattle.linear_algebra.proofs.SpanLaws.{span_through}
 use Rattle.exchanges.proofs.SpansOfLines.{set_with_vectors, spanned_of_within}
 use Rattle.exchanges.specs.Exchanges.{AreSpanned, CanExchange}
-use Rattle.exchanges.specs.Offers.{IsOffer, OffersNothing}
+use Rattle.exchanges.specs.Offers.{IsOffer, OffersNothing, TellsLineOut}
 use Rattle.exchanges.specs.declared.offer.Offer.{Offer}
 use Rattle.matching_state.specs.Places.{IsExposed, IsOuter, IsTip, rank_beside}
 use Rattle.matching_state.specs.Supports.{IsSupport}
@@ -25,6 +25,12 @@ use Rattle.parity_theory.proofs.Exposure.{exposed_within}
 pub not_exposed_offers_nothing : (S : Scalars) (p : ParityProblem) (vs : List (List ℕ)) (T M : List ℕ) (l : ℕ) → rank_beside S p M l ≢ 2 →
     ¬ (IsExposed S p M l) → OffersNothing S p vs T M l
 not_exposed_offers_nothing S p vs T M l n k = record { not_free = n; no_exchange = λ out e. k e.exposed }
+
+-- what is told of the line that goes out, at equal terms
+pub line_out_told : (S : Scalars) (d e : ℕ) (vs : List (List ℕ)) (T v outer L : List ℕ) (found told : Option ℕ) → e ≡ d → v ≡ outer → found ≡ told →
+    TellsLineOut S e vs T v L found → TellsLineOut S d vs T outer L told
+line_out_told S d e vs T v outer L found told w o f t =
+    subst (λ n. TellsLineOut S n vs T outer L told) w (subst (λ x. TellsLineOut S e vs T x L told) o (subst (TellsLineOut S e vs T v L) f t))
 
 -- a look at the line that found nothing
 pub nothing_found : (S : Scalars) (p : ParityProblem) (vs : List (List ℕ)) (T M : List ℕ) (l m : ℕ) (found : Option Offer) → l ≡ m →

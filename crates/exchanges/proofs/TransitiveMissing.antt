@@ -4,9 +4,9 @@ use Rattle.std.proofs.lemmas.List.Elements.{All-nil, All-cons, All-head, All-tai
 use Rattle.linear_algebra.specs.Scalars.{Scalars, IsField}
 use Rattle.linear_algebra.specs.Vectors.{IsVector, AreVectors}
 use Rattle.linear_algebra.proofs.Coordinates.{tuple, space}
-use Rattle.exchanges.proofs.ReachedSets.{IsKept, kept_by_exchanges}
-use Rattle.exchanges.proofs.SettledSets.{settled_tuples}
-use Rattle.exchanges.specs.Exchanges.{IsReached, IsSettled}
+use Rattle.exchanges.proofs.ReachedSets.{kept_by_exchanges}
+use Rattle.exchanges.proofs.SettledSets.{settled_at_set}
+use Rattle.exchanges.specs.Exchanges.{IsReached, IsSettled, StillMisses}
 use Rattle.matching_state.specs.Missing.{Misses}
 use Rattle.matching_state.proofs.Ties.{misses_to, misses_from}
 use Rattle.parity_lines.proofs.Border.{tuples_at}
@@ -36,7 +36,7 @@ module _ (S : Scalars) (F : IsField S) (p : ParityProblem) (P : IsProblem S p) (
   alone : AreVectors S p.dimension (q ∷ [])
   alone = All-cons (IsVector S p.dimension) q [] first (All-nil (IsVector S p.dimension))
 
-  reached : IsKept S p (q ∷ []) M L
+  reached : StillMisses S p (q ∷ []) M L
   reached = kept_by_exchanges S F p P (q ∷ []) N j.line_set.within alone M L i m r
 
   pub shared_out : Misses S p L (q ∷ u ∷ []) ⊎ Misses S p L (q ∷ w ∷ [])
@@ -45,7 +45,7 @@ module _ (S : Scalars) (F : IsField S) (p : ParityProblem) (P : IsProblem S p) (
       elim (transitivity_of_missing (space S F p.dimension) (tuples_at S F p) L N (tuple S F p.dimension u) (tuple S F p.dimension q)
       (tuple S F p.dimension w) (reached.as_long ∙ same)
       (misses_to S F p P L (q ∷ []) within alone reached.missed) (misses_to S F p P N (u ∷ w ∷ []) j.line_set.within others n)
-      (settled_tuples S F p P L reached.independent (q ∷ []) alone reached.missed N j s)) [
+      (settled_at_set S F p P L reached.independent (q ∷ []) alone reached.missed N j.line_set.within s j)) [
         | inl a ↦ inl (misses_from S F p P L (q ∷ u ∷ []) within (pair q u first second) a)
         | inr b ↦ inr (misses_from S F p P L (q ∷ w ∷ []) within (pair q w first third) b)
       ]

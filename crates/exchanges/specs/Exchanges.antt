@@ -3,6 +3,7 @@ use Rattle.std.specs.Prelude.{◌≡◌, ◌≢◌, ◌==◌, ℕ, suc, List, []
 use Rattle.std.specs.List.{Contains, list_any}
 use Rattle.linear_algebra.specs.Scalars.{Scalars}
 use Rattle.linear_algebra.specs.Spans.{InSpan}
+use Rattle.matching_state.specs.Missing.{Misses}
 use Rattle.matching_state.specs.Overlaps.{InSupport}
 use Rattle.matching_state.specs.Places.{IsExposed, rank_beside}
 use Rattle.matching_state.specs.Steps.{IsSwap}
@@ -33,6 +34,12 @@ pub data IsReached (S : Scalars) (p : ParityProblem) (keep : List (List ℕ)) (T
   by_none : IsReached S p keep T M M
   by_one_more : (N L : List ℕ) (out into : ℕ) → IsReached S p keep T M N → IsExchangeToward S p keep T N out into L → IsLineSet p L →
       IsReached S p keep T M L
+
+-- N is an independent set that is as long as M and misses the vectors of keep
+pub record StillMisses (S : Scalars) (p : ParityProblem) (keep : List (List ℕ)) (M N : List ℕ) : Type 0 where
+  pub independent : IsIndependentSet S p N
+  pub as_long : length N ≡ length M
+  pub missed : Misses S p N keep
 
 -- no line of T is free over M, and no such exchange is left
 pub record IsSettled (S : Scalars) (p : ParityProblem) (keep : List (List ℕ)) (T M : List ℕ) : Type 0 where

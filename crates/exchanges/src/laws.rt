@@ -1,19 +1,19 @@
 //! What holds of exchanges toward a target, as clauses of functions that do nothing.
 
-ghost use Rattle.std.specs.Prelude.{◌≡◌, ◌<◌, ◌≤◌, ◌⊎◌, ◌∷◌, ◌++◌, [], ℕ, suc, List, All, length};
+ghost use Rattle.std.specs.Prelude.{◌≡◌, ◌≤◌, ◌⊎◌, ◌∷◌, ◌++◌, [], ℕ, suc, List, length};
 ghost use Rattle.std.specs.List.{Contains};
 ghost use Rattle.linear_algebra.specs.Scalars.{Scalars, IsField};
 ghost use Rattle.linear_algebra.specs.Vectors.{AreVectors};
 ghost use Rattle.parity_lines.specs.LineSets.{IsLineSet, IsIndependentSet};
 ghost use Rattle.parity_lines.specs.Problems.{ParityProblem, IsProblem, vectors_at};
 ghost use Rattle.matching_state.specs.Missing.{Misses};
-ghost use Rattle.exchanges.specs.Exchanges.{AreSpanned, IsExchangeToward, IsReached, IsSettled, distance};
+ghost use Rattle.exchanges.specs.Exchanges.{AreSpanned, IsExchangeToward, IsReached, IsSettled, StillMisses, distance};
 
 /// One exchange toward a target keeps the set independent and as long, and misses what was missed. The target is
 /// nearer by one line.
 pub fn exchanges_come_nearer()
     ensures kept { (S : Scalars) (p : ParityProblem) (keep : List (List ℕ)) (T M N : List ℕ) (out into : ℕ) → IsField S → IsProblem S p → IsIndependentSet S p M → IsLineSet p T → AreVectors S p.dimension keep → Misses S p M keep
-        → IsExchangeToward S p keep T M out into N → IsLineSet p N → IsIndependentSet S p N × (length N ≡ length M) × Misses S p N keep }
+        → IsExchangeToward S p keep T M out into N → IsLineSet p N → StillMisses S p keep M N }
     ensures nearer { (S : Scalars) (p : ParityProblem) (keep : List (List ℕ)) (T M N : List ℕ) (out into : ℕ) → IsField S → IsProblem S p → IsIndependentSet S p M → IsLineSet p T
         → IsExchangeToward S p keep T M out into N → IsLineSet p N → suc (distance N T) ≡ distance M T }
 {}
@@ -22,7 +22,7 @@ pub fn exchanges_come_nearer()
 /// of the target, has each line still that both have, and is no farther from the target.
 pub fn sets_that_exchanges_reach()
     ensures kept { (S : Scalars) (p : ParityProblem) (keep : List (List ℕ)) (T M N : List ℕ) → IsField S → IsProblem S p → IsIndependentSet S p M → IsLineSet p T → AreVectors S p.dimension keep → Misses S p M keep
-        → IsReached S p keep T M N → IsIndependentSet S p N × (length N ≡ length M) × Misses S p N keep }
+        → IsReached S p keep T M N → StillMisses S p keep M N }
     ensures lines { (S : Scalars) (p : ParityProblem) (keep : List (List ℕ)) (T M N : List ℕ) (l : ℕ) → IsReached S p keep T M N → Contains N l → Contains M l ⊎ Contains T l }
     ensures stays { (S : Scalars) (p : ParityProblem) (keep : List (List ℕ)) (T M N : List ℕ) (l : ℕ) → IsReached S p keep T M N → Contains M l → Contains T l → Contains N l }
     ensures nearer { (S : Scalars) (p : ParityProblem) (keep : List (List ℕ)) (T M N : List ℕ) → IsReached S p keep T M N → distance N T ≤ distance M T }

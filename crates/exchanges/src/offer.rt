@@ -3,9 +3,7 @@
 ghost use Rattle.std.specs.Prelude.{◌≡◌, ◌<◌, ◌++◌, ℕ, All, IfOk, MatchOption, length, map};
 ghost use Rattle.std.specs.List.{Contains};
 ghost use Rattle.linear_algebra.specs.Spans.{InSpan};
-ghost use Rattle.matching_state.specs.Places.{IsExposed, IsOuter, IsTip, rank_beside};
-ghost use Rattle.parity_lines.specs.LineSets.{IsIndependentSet};
-ghost use Rattle.parity_lines.specs.Problems.{IsProblem, vectors_at};
+ghost use Rattle.parity_lines.specs.Problems.{vectors_at};
 ghost use Rattle.exchanges.specs.Exchanges.{IsSettled};
 ghost use Rattle.exchanges.specs.Offers.{IsOffer, OffersNothing, TellsLineOut};
 

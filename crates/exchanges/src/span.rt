@@ -1,6 +1,6 @@
 //! The span of an independent set with vectors to keep.
 
-ghost use Rattle.std.specs.Prelude.{◌≡◌, ◌<◌, ◌++◌, IfOk, length};
+ghost use Rattle.std.specs.Prelude.{◌≡◌, ◌++◌, IfOk};
 ghost use Rattle.echelon.specs.Grown.{Grows, GrowsToSpan};
 ghost use Rattle.linear_algebra.specs.Vectors.{AreVectors};
 ghost use Rattle.parity_lines.specs.Problems.{vectors_at};

@@ -1,11 +1,10 @@
 //! One step toward a target.
 
-ghost use Rattle.std.specs.Prelude.{◌≡◌, ◌<◌, ℕ, All, IfOk, OnErr, length};
-ghost use Rattle.exchanges.specs.Exchanges.{IsLonger};
+ghost use Rattle.std.specs.Prelude.{◌≡◌, ◌<◌, All, IfOk, OnErr, length};
+ghost use Rattle.exchanges.specs.Exchanges.{IsLonger, StillMisses};
 ghost use Rattle.exchanges.specs.Steps.{TellsStep};
 ghost use Rattle.matching_state.specs.Missing.{Misses};
 ghost use Rattle.matching_state.specs.Places.{rank_beside};
-ghost use Rattle.parity_lines.specs.LineSets.{IsIndependentSet};
 
 use crate::offer::{Offer, first_offer};
 use crate::swap;
@@ -47,8 +46,7 @@ pub fn step_toward<F: Field>(
     requires width { keep.now.width ≡ state.old.problem.dimension }
     requires missed { Misses F.scalars state.old.problem state.old.set keep.now.rows }
     ensures problem { state.new.problem ≡ state.old.problem }
-    ensures independent { IsIndependentSet F.scalars state.new.problem state.new.set }
-    ensures missed { Misses F.scalars state.new.problem state.new.set keep.now.rows }
+    ensures kept { StillMisses F.scalars state.old.problem keep.now.rows state.old.set state.new.set }
     ensures step { IfOk result (TellsStep F.scalars state.old.problem keep.now.rows target.now state.old.set state.new.set) }
     ensures err { OnErr result (state.new ≡ state.old) }
 {

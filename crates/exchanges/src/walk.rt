@@ -1,7 +1,7 @@
 //! Steps toward a target, as far as they go.
 
-ghost use Rattle.std.specs.Prelude.{◌≡◌, ◌<◌, ℕ, All, IfOk, OnErr, length};
-ghost use Rattle.exchanges.specs.Exchanges.{IsReached};
+ghost use Rattle.std.specs.Prelude.{◌≡◌, ◌<◌, All, IfOk, length};
+ghost use Rattle.exchanges.specs.Exchanges.{IsReached, StillMisses};
 ghost use Rattle.exchanges.specs.Steps.{TellsMoved};
 ghost use Rattle.matching_state.specs.Missing.{Misses};
 
@@ -33,8 +33,7 @@ pub fn move_toward<F: Field>(
     requires missed { Misses F.scalars state.old.problem state.old.set keep.now.rows }
     ensures problem { state.new.problem ≡ state.old.problem }
     ensures reached { IsReached F.scalars state.old.problem keep.now.rows target.now state.old.set state.new.set }
-    ensures missed { Misses F.scalars state.new.problem state.new.set keep.now.rows }
-    ensures as_long { length state.new.set ≡ length state.old.set }
+    ensures kept { StillMisses F.scalars state.old.problem keep.now.rows state.old.set state.new.set }
     ensures moved { IfOk result (TellsMoved F.scalars state.old.problem keep.now.rows target.now state.new.set) }
 {
     let (problem, _set) = (state.problem(), state.set());

@@ -3,6 +3,7 @@ use Rattle.std.proofs.Common.{◌≡◌, ℕ, List, [], ◌∷◌, ◌++◌, len
 use Rattle.std.specs.Prelude.{codes}
 use Rattle.line_lexer.specs.Lines.{Line, lines, content, words, lines_from}
 use Rattle.line_lexer.specs.Numbers.{number_of}
+use Rattle.line_lexer.specs.WordPlaces.{word_places, line_start, places_on}
 
 abbrev good : ℕ → List (List ℕ) → Line
 good n ws = record { number = n; words = Some ws }
@@ -78,3 +79,8 @@ ten_digits = refl
 signed : number_of (codes "+1") ≡ None
 unfolding number_of
 signed = refl
+
+-- the words of the third line, where they stand in the whole text
+places : places_on (codes "ab#c\n\n d  ef") 3 ≡ (7, 8) ∷ (10, 12) ∷ []
+unfolding places_on line_start word_places content
+places = refl

@@ -16,7 +16,7 @@ fault_of line kind = record { line = line; kind = kind }
 pub same_fault : (old new : Seen) (fault : LexFault) (more : List Line) (answer : Result Bool LexFault) → old.ahead ≡ record { number = fault.line; words = None } ∷ more → fault.kind ≡ Byte
     → GoesOn old new answer → answer ≡ Err fault
 same_fault old new fault more (Ok true) e k h =
-    let both = first-is (record { number = new.line; words = Some new.words }) (record { number = fault.line; words = None }) new.ahead more (sym h ∙ e) in
+    let both = first-is (record { number = new.line; words = Some new.words }) (record { number = fault.line; words = None }) new.ahead more (sym h.0 ∙ e) in
     absurd (cc (both.1))
 same_fault old new fault more (Ok false) e k h = let none : [] ≡ record { number = fault.line; words = None } ∷ more = sym h.0 ∙ e in absurd (cc (none))
 same_fault old new fault more (Err other) e k h =

@@ -9,8 +9,10 @@ use Rattle.std.proofs.lemmas.List.{length-take, drop-take}
 use Rattle.std.proofs.Math.ListN.{drop_of_length-le}
 use Rattle.line_lexer.specs.Bytes.{is_newline, is_hash, is_word_byte, is_gap, is_allowed}
 use Rattle.line_lexer.specs.Lines.{content, words, Line, is_passed, lines, lines_from}
+use Rattle.line_lexer.specs.WordPlaces.{word_places}
 use Rattle.line_lexer.proofs.Positions.{position_or_len_within}
 use Rattle.line_lexer.proofs.Lines.{lines-cons, lines_from-cons}
+use Rattle.line_lexer.proofs.WordPlaces.{word_places-skip}
 use Rattle.line_lexer.proofs.Words.{words_nil, words-skip, words-cons, word_byte_first, word_is_some}
 
 -- a line without its carriage return is a front of it
@@ -100,3 +102,11 @@ has_words text line len end next start f plain first word n =
     let skip : words (take end text) ≡ words (slice_range text start end) = rw (← same, ← f.content.taken, first) (words-skip (take end line)) in
     let shown : words (slice_range text start end) ≡ take (position_or_len is_gap part) part ∷ words (drop (position_or_len is_gap part) part) = rw (← same, ← f.content.taken) some in
     rw (first-is text line len end next f n, e, skip, shown) refl
+
+-- the words stand where those of the content do
+pub has_places : (text line : List ℕ) (len end next start : ℕ) → Found text line len end next → start ≡ position_or_len is_word_byte (take end line) → start < length (take end line)
+    → (at : ℕ) → word_places (at + start) (slice_range text start end) ≡ word_places at (content (before_first is_newline text))
+has_places text line len end next start f first word at =
+    let before : before_first is_newline text ≡ take len text = ap (λ (k : ℕ). take k text) (sym f.len_is) in
+    let same : drop start (take end text) ≡ slice_range text start end = range-is text start end (omega (arith, length-take end line)) in
+    rw (before, f.content.is, ← same, ← f.content.taken, first) (sym (word_places-skip at (take end line)))

@@ -1,6 +1,7 @@
 pub mod Positions
 pub mod Lines
 pub mod Words
+pub mod WordPlaces
 pub mod Places
 pub mod FirstLine
 pub mod NextWord

@@ -2,6 +2,7 @@ pub mod Bytes
 pub mod Lines
 pub mod Numbers
 pub mod Words
+pub mod WordPlaces
 pub mod Seen
 pub mod Steps
 pub mod FirstLine

@@ -1,4 +1,6 @@
-ghost use Rattle.std.specs.Prelude.{◌≡◌, ◌+◌, ◌≤◌, ◌<◌, length, drop};
+ghost use Rattle.std.specs.Prelude.{◌≡◌, ◌+◌, ◌≤◌, ◌<◌, min, length, drop};
+ghost use Rattle.std.specs.List.{position_or_len};
+ghost use Rattle.line_lexer.specs.Bytes.{is_newline};
 ghost use Rattle.line_lexer.specs.Lines.{lines};
 ghost use Rattle.line_lexer.specs.FirstLine.{IsFirstLine};
 
@@ -19,8 +21,7 @@ pub enum FirstLine {
 #[tactic(auto, using(crate::proofs::FirstLine::lines_after_first))]
 pub fn read_first_line(text: &[u8]) -> (FirstLine, usize)
     requires { 0 < length text.now }
-    ensures moves { 0 < result.1 }
-    ensures within { result.1 ≤ length text.now }
+    ensures next { result.1 ≡ min (position_or_len is_newline text.now + 1) (length text.now) }
     ensures line { IsFirstLine text.now result.1 result.0 }
     ensures count { length (lines text.now) ≡ 1 + length (lines (drop result.1 text.now)) }
 {

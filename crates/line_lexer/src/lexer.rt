@@ -38,13 +38,14 @@ impl<'a> Model for Lexer<'a> {
 
 impl<'a> Lexer<'a> {
     /// A lexer before the first line of a text of at most 4,194,304 bytes.
-    #[tactic(auto, using(crate::proofs::Words::words_nil))]
+    #[tactic(auto, using(crate::proofs::Words::words_nil, crate::proofs::WordPlaces::word_places_nil), unfolding(crate::specs::WordPlaces::line_start))]
     pub fn new(bytes: &'a [u8]) -> Lexer<'a>
         requires { length bytes.now ≤ 4194304 }
         ensures bytes { result.bytes ≡ bytes.now }
         ensures ahead { result.ahead ≡ lines_from 1 bytes.now }
         ensures line { result.line ≡ 0 }
         ensures words { result.words ≡ [] }
+        ensures places { result.places ≡ [] }
     {
         Lexer {
             bytes,
@@ -58,7 +59,7 @@ impl<'a> Lexer<'a> {
 
     /// Goes to the next line that has a word or a bad byte. It answers false where there is none, and the fault
     /// `Byte` where that line has a bad byte: then the lexer stays before it, so each later call answers this fault.
-    #[tactic(auto, using(crate::proofs::Words::words_nil, crate::proofs::Lines::lines_from_nil))]
+    #[tactic(auto, using(crate::proofs::Words::words_nil, crate::proofs::WordPlaces::word_places_nil, crate::proofs::Lines::lines_from_nil))]
     pub fn next_line(&mut self) -> Result<bool, LexFault>
         ensures bytes { self.new.bytes ≡ self.old.bytes }
         ensures next { GoesOn self.old self.new result }
@@ -97,7 +98,7 @@ impl<'a> Lexer<'a> {
         }
     }
 
-    /// Takes the next word of the line. There is none before the first `next_line`, nor after one that answered
+    /// Takes the next word of the line, where it stands in the input. There is none before the first `next_line`, nor after one that answered
     /// false or a fault.
     pub fn next_word(&mut self) -> Option<Token>
         ensures line { SameLine self.old self.new }

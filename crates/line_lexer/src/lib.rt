@@ -1,8 +1,9 @@
 //! The lines and words of a text, and a lexer that goes over them and takes no memory.
 //!
 //! What lines, comments, words and bad bytes are stands in `specs/Bytes.antt` and `specs/Lines.antt`, over all bytes of a
-//! text, and numbers in `specs/Numbers.antt`; `proofs/Examples.antt` shows them at small texts. `specs/Seen.antt` and
-//! `specs/Steps.antt` say what each call of `Lexer` does. That it finds each line and each word is proved by
+//! text, numbers in `specs/Numbers.antt`, and where the words of a line stand in the input in `specs/WordPlaces.antt`;
+//! `proofs/Examples.antt` shows them at small texts. `specs/Seen.antt` and `specs/Steps.antt` say what each call of
+//! `Lexer` does. That it finds each line and each word is proved by
 //! `proofs/FirstLine.antt` and `proofs/NextWord.antt`. Lines that are written as `specs/Words.antt` says are read again:
 //! `proofs/Spelled.antt`.
 //!
@@ -18,8 +19,6 @@ mod next_line;
 mod number;
 mod refusal;
 mod scan;
-#[cfg(test)]
-mod tests;
 mod token;
 
 pub use fault::{LexFault, TextFault};

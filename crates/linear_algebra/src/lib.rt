@@ -11,6 +11,4 @@
 
 mod laws;
 
-pub use laws::{
-    added_rank_is_of_the_spans, exchange_lemma, rank_is_greatest, rank_is_of_the_span,
-};
+pub use laws::{added_rank_is_of_the_spans, exchange_lemma, rank_is_greatest, rank_is_of_the_span};

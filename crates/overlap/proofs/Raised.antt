@@ -12,7 +12,7 @@ use Rattle.linear_algebra.specs.Vectors.{IsVector, AreVectors}
 use Rattle.linear_algebra.proofs.Coordinates.{tuple, space}
 use Rattle.linear_algebra.proofs.Elements.{Element, scalar_field}
 use Rattle.exchanges.specs.Exchanges.{IsSettled}
-use Rattle.exchanges.proofs.SettledSets.{settled_lines}
+use Rattle.exchanges.proofs.SettledSets.{settled_tuples}
 use Rattle.matching_state.specs.Missing.{Misses}
 use Rattle.matching_state.specs.Overlaps.{IsOverlap}
 use Rattle.matching_state.proofs.Ties.{span_to, misses_to}
@@ -82,5 +82,5 @@ module _ (S : Scalars) (F : IsField S) (p : ParityProblem) (P : IsProblem S p) (
         All-cons (IsVector S p.dimension) point [] x.vector (All-nil (IsVector S p.dimension)) in
         raise_never_settles sp line M e h (tuple S F p.dimension point) overlap spanned T among N all len
         (misses_to S F p P N (point ∷ []) j.line_set.within k m)
-        (settled_lines S F p P N j (point ∷ []) k m T (λ l q. lines_below l (among l q))
-        (λ l q. overlap_line_independent sp line M e h overlap l (among l q)) s)
+        (settled_tuples S F p P N j (point ∷ []) k m T target_within s
+        (λ l q. overlap_line_independent sp line M e h overlap l (among l q)))

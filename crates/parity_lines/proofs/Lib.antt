@@ -5,3 +5,4 @@ pub mod IndependentLines
 pub mod LinePairs
 pub mod LineSets
 pub mod Relations
+pub mod NoRelation

@@ -1,5 +1,5 @@
 -- What a run says by its status.
-use Rattle.std.specs.Prelude.{◌≡◌, ℕ, ◌+◌, ◌<◌, ◌≤◌, ◌⊎◌, List, Bool, true, false, Option, None, Some, IfSome, Ok, Err}
+use Rattle.std.specs.Prelude.{◌≡◌, ◌≢◌, ℕ, ◌+◌, ◌≤◌, ◌⊎◌, List, Bool, true, false, Option, None, Some, IfSome, Ok, Err}
 use Rattle.std.specs.Io.KnownBytes.{Appends, IsAtEnd, Keeps}
 use Rattle.line_lexer.specs.declared.refusal.Counted.{Counted}
 use Rattle.line_lexer.specs.declared.refusal.Counted.TheVariants as counted
@@ -68,7 +68,7 @@ HasByteCause before now status = now ≤ before + 4194304
 
 -- the count didn't rise, and isn't at its last value
 abbrev pub NoFault : ℕ → ℕ → Type 0
-NoFault before now = (now ≡ before) × (before < last_count)
+NoFault before now = (now ≡ before) × (before ≢ last_count)
 
 -- the reply was written, or there was no memory
 abbrev pub IsAnsweredOrOutOfMemory : Status → Type 0

@@ -10,6 +10,10 @@
 //! `proofs/running` and `proofs/Outcomes.antt`.
 #![tactic(auto)]
 
+ghost use Rattle.std.specs.Prelude.{◌≡◌};
+ghost use Rattle.std.specs.Process.{exit_status};
+ghost use Rattle.parity_program.specs.StatusLines.{code_of};
+
 mod check;
 mod command;
 mod improve;
@@ -45,6 +49,13 @@ fn words_of<R: Env + AllocGlobal>(rt: &R) -> Result<Vec<String>, Status> {
     }
 }
 
+/// The program ends with the status's code.
+fn exit_code(status: Status) -> ExitCode
+    ensures { exit_status result ≡ code_of status }
+{
+    ExitCode::from(status.code())
+}
+
 fn main(rt: HostRuntime) -> ExitCode {
     let status = match words_of(&rt) {
         Ok(words) => {
@@ -55,5 +66,5 @@ fn main(rt: HostRuntime) -> ExitCode {
         Err(status) => status,
     };
     let _unseen = rt.stderr().write_all(status.line().as_bytes());
-    ExitCode::from(status.code())
+    exit_code(status)
 }

@@ -1,10 +1,13 @@
 //! The reply of a command to an input.
 
-ghost use Rattle.std.specs.Prelude.{◌≡◌, ◌≤◌, IfErr, length};
+ghost use Rattle.std.specs.Prelude.{◌≡◌, ◌≤◌, Err, IfErr, length};
 ghost use Rattle.line_lexer.specs.Lines.{lines as text_lines};
+ghost use Rattle.line_lexer.specs.declared.refusal.TextRefusal.{TextRefusal};
 ghost use Rattle.parity_program.specs.Shown.{input_over, RepliesOver, RepliesTo};
+ghost use Rattle.parity_text.specs.Texts.{head};
 ghost use Rattle.small_fields.specs.FieldName.{order_of};
 ghost use Rattle.small_fields.specs.ScalarsOf.{scalars_of};
+ghost use Rattle.text_forms.specs.Forms.{of_text};
 ghost use Rattle.text_forms.specs.Gives.{IsOfText};
 
 use crate::Command;
@@ -59,6 +62,9 @@ pub fn reply_to(alloc: Global, command: Command, bytes: &[u8]) -> Result<Reply, 
     requires { length bytes.now ≤ 4194304 }
     ensures replies { RepliesTo command bytes.now result }
     ensures kind { IfErr result IsOfText }
+
+    // The head takes no memory: where it is refused, want of memory is no answer.
+    ensures head { (e : TextRefusal) → of_text head bytes.now ≡ Err e → result ≡ Err e }
 {
     let mut lexer = Lexer::new(bytes);
     match read_head(&mut lexer) {

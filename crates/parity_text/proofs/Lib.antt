@@ -6,6 +6,7 @@ pub mod CausalForms
 pub mod Meaning
 pub mod PlacesMean
 pub mod TextsMean
+pub mod FilesMean
 pub mod Limits
 pub mod WrittenWords
 pub mod WrittenLines

@@ -1,5 +1,5 @@
 -- A text that is written piece by piece: what stands where a writer goes on, and where it is stopped.
-use Rattle.std.proofs.Common.{◌≡◌, ℕ, suc, ◌+◌, ◌<◌, ◌≤◌, List, [], ◌∷◌, ◌++◌, length, take, take_all, drop, get_or, map, refl, sym, ◌∙◌, ap, subst, append_assoc, drop-cons, Result, Ok, Err}
+use Rattle.std.proofs.Common.{◌≡◌, ℕ, suc, ◌+◌, ◌<◌, ◌≤◌, List, [], ◌∷◌, ◌++◌, length, take, take_all, drop, get_or, map, refl, sym, ◌∙◌, ap, ap₂, subst, append_assoc, drop-cons, Result, Ok, Err}
 use Rattle.std.specs.Prelude.{codes}
 use Rattle.std.specs.Fmt.{decimal}
 use Rattle.std.specs.List.{flat_map, join_with_byte}
@@ -7,7 +7,7 @@ use Rattle.std.specs.Result.{IsErr}
 use Rattle.std.proofs.lemmas.Grind.{flat_map-append}
 use Rattle.std.proofs.lemmas.List.{take-append-drop, append-nil, take_more, get_or-map, length-map}
 use Rattle.line_lexer.specs.Words.{line_text}
-use Rattle.parity_text.specs.Spelled.{counted_words}
+use Rattle.parity_text.specs.Spelled.{counted_words, pair_words}
 use Rattle.parity_text.specs.Writes.{Writes}
 
 -- some front of the text stands behind what was there
@@ -68,6 +68,14 @@ each_stops {X = X} g xs i d old mid new piece lt is so_far s =
 
 pub each_is_done : {X : Type 0} (g : X → List ℕ) (xs : List X) (i : ℕ) (old new : List ℕ) → length xs ≤ i → new ≡ old ++ flat_map g (take i xs) → new ≡ old ++ flat_map g xs
 each_is_done {X = X} g xs i old new le so_far = so_far ∙ ap (λ (ys : List X). old ++ flat_map g ys) (take_all i xs le)
+
+-- the piece of an element, as the list of all pieces has it
+pub piece_at : {X Y : Type 0} (g : Y → List ℕ) (h : X → Y) (xs : List X) (i : ℕ) (d : X) (e : Y) (x : X) → i < length xs → x ≡ get_or xs i d → g (h x) ≡ g (get_or (map h xs) i e)
+piece_at {Y = Y} g h xs i d e x lt is = ap (λ x. g (h x)) is ∙ ap (λ (y : Y). g y) (sym (get_or-map h xs i d e lt))
+
+-- the line of a pair, by its two vectors
+pub pair_at : (xs : List (List ℕ × List ℕ)) (i : ℕ) (u v : List ℕ) → i < length xs → u ≡ (get_or xs i ([], [])).0 → v ≡ (get_or xs i ([], [])).1 → line_text (pair_words (u, v)) ≡ line_text (get_or (map pair_words xs) i [])
+pair_at xs i u v lt p q = ap₂ (λ a b. line_text (pair_words (a, b))) p q ∙ ap line_text (sym (get_or-map pair_words xs i ([], []) [] lt))
 
 -- a number's word
 pub number_piece : {X : Type 0} (f : X → ℕ) (xs : List X) (i : ℕ) (x : X) (n : ℕ) → i < length xs → x ≡ get_or xs i x → n ≡ f x → 32 ∷ decimal n ≡ 32 ∷ get_or (map decimal (map f xs)) i []

@@ -89,3 +89,27 @@ pub record SpellsChoice (lines : ℕ) (chosen : List ℕ) (text : List Line) : T
   pub spells_version : IsOneLine (λ n words. IsNameAndNumeral (codes "choice") n words) 1 version
   pub spells_set : SpellsSet lines chosen set
   pub spells_end : IsOneLine (λ (_ : Unit {0}) words. words ≡ codes "end" ∷ []) tt end
+
+-- a whole text of a problem: the head, and the problem
+pub record SpellsProblemText (q : ℕ) (p : ParityProblem) (text : List Line) : Type 0 where
+  pub head : List Line
+  pub problem : List Line
+  pub text_is : text ≡ head ++ problem
+  pub spells_head : SpellsHead q head
+  pub spells_problem : SpellsProblem q p problem
+
+-- a whole text of a problem, and behind it lines that spell a value by the problem
+pub record SpellsWith {A : Type 0} (SpellsRest : ℕ → ParityProblem → A → List Line → Type 0) (q : ℕ) (p : ParityProblem) (x : A) (text : List Line) : Type 0 where
+  pub problem : List Line
+  pub rest : List Line
+  pub text_is : text ≡ problem ++ rest
+  pub spells_problem : SpellsProblemText q p problem
+  pub spells_rest : SpellsRest q p x rest
+
+-- a whole text of a problem with an answer
+abbrev pub SpellsAnswerText : ℕ → ParityProblem → AnswerValue → List Line → Type 0
+SpellsAnswerText = SpellsWith (λ q p. SpellsAnswer q p.dimension (length p.lines))
+
+-- a whole text of a problem with a choice of its lines
+abbrev pub SpellsChoiceText : ℕ → ParityProblem → List ℕ → List Line → Type 0
+SpellsChoiceText = SpellsWith (λ _ p. SpellsChoice (length p.lines))

@@ -8,6 +8,7 @@ ghost use Rattle.parity_text.specs.Texts.{order, field, head};
 ghost use Rattle.small_fields.specs.FieldName.{field_orders, order_of};
 ghost use Rattle.text_forms.specs.Forms.{line};
 ghost use Rattle.text_forms.specs.Gives.{Gives, IsOfText};
+ghost use Rattle.text_forms.specs.Taken.{after_line};
 
 use line_lexer::{Lexer, TextFault, TextRefusal};
 use small_fields::FieldName;
@@ -46,6 +47,7 @@ fn order_word(lexer: &mut Lexer<'_>) -> Result<FieldName, TextRefusal>
 #[tactic(auto, unfolding(crate::specs::Texts::field, text_forms::specs::Forms::line))]
 fn field_line(lexer: &mut Lexer<'_>) -> Result<FieldName, TextRefusal>
     ensures bytes { lexer.new.bytes ≡ lexer.old.bytes }
+    ensures ahead { lexer.new.ahead ≡ after_line lexer.old.ahead }
     ensures gives { Gives (λ name. (order_of name, lexer.new.ahead)) result
         (line field (length (text_lines lexer.old.bytes)) lexer.old.ahead) }
     ensures kind { IfErr result IsOfText }

@@ -1,14 +1,14 @@
-ghost use Rattle.std.specs.Prelude.{◌≡◌, ◌≢◌, ℕ, ◌<◌, List, [], ◌++◌, length, All, Ok};
+ghost use Rattle.std.specs.Prelude.{◌≡◌, ◌≢◌, ℕ, ◌<◌, ◌↔◌, List, [], ◌++◌, length, All, Ok};
 ghost use Rattle.std.specs.List.{Contains};
 ghost use Rattle.std.specs.List.Sorted.{IsStrictlyIncreasing};
-ghost use Rattle.line_lexer.specs.Lines.{Line};
+ghost use Rattle.line_lexer.specs.Lines.{Line, lines_from};
 ghost use Rattle.line_lexer.specs.Words.{spelled};
 ghost use Rattle.linear_algebra.specs.Scalars.{Scalars};
 ghost use Rattle.parity_lines.specs.LineSets.{IsLineSet};
 ghost use Rattle.parity_lines.specs.Problems.{ParityProblem};
 ghost use Rattle.parity_text.specs.Files.{problem_file, answer_file, choice_file};
 ghost use Rattle.parity_text.specs.Spelled.{problem_lines, answer_lines, choice_lines};
-ghost use Rattle.parity_text.specs.Spells.{SpellsHead, SpellsProblem, SpellsAnswer, SpellsChoice};
+ghost use Rattle.parity_text.specs.Spells.{SpellsHead, SpellsProblem, SpellsAnswer, SpellsChoice, SpellsProblemText, SpellsAnswerText, SpellsChoiceText};
 ghost use Rattle.parity_text.specs.Texts.{head, problem, answer, choice};
 ghost use Rattle.parity_text.specs.Values.{AnswerValue, IsWithinLimits, IsAnswerTo};
 ghost use Rattle.small_fields.specs.FieldName.{field_orders};
@@ -22,6 +22,16 @@ pub fn texts_give_what_is_spelled()
     ensures problem { (q : ℕ) → Takes (SpellsProblem q) (problem q) }
     ensures answer { (q d lines : ℕ) → Takes (SpellsAnswer q d lines) (answer q d lines) }
     ensures choice { (lines : ℕ) → Takes (SpellsChoice lines) (choice lines) }
+{}
+
+/// The bytes of a whole text have a value exactly where all of their lines, in order, spell it.
+pub fn files_give_what_is_spelled()
+    ensures problem { (bytes : List ℕ) (q : ℕ) (p : ParityProblem) →
+        (of_text problem_file bytes ≡ Ok ((q, p), [])) ↔ SpellsProblemText q p (lines_from 1 bytes) }
+    ensures answer { (bytes : List ℕ) (q : ℕ) (p : ParityProblem) (a : AnswerValue) →
+        (of_text answer_file bytes ≡ Ok (((q, p), a), [])) ↔ SpellsAnswerText q p a (lines_from 1 bytes) }
+    ensures choice { (bytes : List ℕ) (q : ℕ) (p : ParityProblem) (set : List ℕ) →
+        (of_text choice_file bytes ≡ Ok (((q, p), set), [])) ↔ SpellsChoiceText q p set (lines_from 1 bytes) }
 {}
 
 /// What a text gives depends on the lines that it takes alone, and its refusal on the lines up to the refused one.

@@ -15,7 +15,8 @@ mod writing;
 
 pub use head::read_head;
 pub use laws::{
-    texts_are_causal, texts_give_what_is_spelled, values_are_within_limits, written_texts_are_read,
+    files_give_what_is_spelled, texts_are_causal, texts_give_what_is_spelled,
+    values_are_within_limits, written_texts_are_read,
 };
 pub use reading::{read_answer, read_problem, read_set};
 pub use text_forms::read_end;

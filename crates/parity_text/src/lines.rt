@@ -6,6 +6,7 @@ ghost use Rattle.parity_text.specs.Texts.{pair, kernel_vector, listed_set, part}
 ghost use Rattle.text_forms.specs.Forms.{line};
 ghost use Rattle.text_forms.specs.Gives.{Gives, IsOfText};
 ghost use Rattle.text_forms.specs.Places.{times};
+ghost use Rattle.text_forms.specs.Taken.{after_line};
 
 use crate::positions::{position_words, some_position_words};
 use crate::vectors::vector_words;
@@ -30,6 +31,7 @@ fn pair_line<F: Field>(
     dimension: usize,
 ) -> Result<Pair<F>, TextRefusal>
     ensures bytes { lexer.new.bytes ≡ lexer.old.bytes }
+    ensures ahead { lexer.new.ahead ≡ after_line lexer.old.ahead }
     ensures gives { Gives (λ p. ((map F.number p.first.items, map F.number p.second.items), lexer.new.ahead)) result
         (line (pair F.scalars.order dimension) (length (text_lines lexer.old.bytes)) lexer.old.ahead) }
     ensures first_long { IfOk result (λ p. length p.first.items ≡ dimension) }
@@ -79,6 +81,7 @@ fn kernel_line<F: Field>(
     width: usize,
 ) -> Result<Vec<F>, TextRefusal>
     ensures bytes { lexer.new.bytes ≡ lexer.old.bytes }
+    ensures ahead { lexer.new.ahead ≡ after_line lexer.old.ahead }
     ensures gives { Gives (λ v. (map F.number v.items, lexer.new.ahead)) result
         (line (kernel_vector F.scalars.order width) (length (text_lines lexer.old.bytes)) lexer.old.ahead) }
     ensures long { IfOk result (λ v. length v.items ≡ width) }
@@ -126,6 +129,7 @@ pub fn set_line(
     lines: usize,
 ) -> Result<LineSet, TextRefusal>
     ensures bytes { lexer.new.bytes ≡ lexer.old.bytes }
+    ensures ahead { lexer.new.ahead ≡ after_line lexer.old.ahead }
     ensures gives { Gives (λ set. (set, lexer.new.ahead)) result
         (line (listed_set lines count) (length (text_lines lexer.old.bytes)) lexer.old.ahead) }
     ensures kind { IfErr result IsOfText }
@@ -141,6 +145,7 @@ pub fn set_line(
 #[tactic(auto, unfolding(text_forms::specs::Forms::line, crate::specs::Texts::part))]
 fn part_line(alloc: Global, lexer: &mut Lexer<'_>, lines: usize) -> Result<LineSet, TextRefusal>
     ensures bytes { lexer.new.bytes ≡ lexer.old.bytes }
+    ensures ahead { lexer.new.ahead ≡ after_line lexer.old.ahead }
     ensures gives { Gives (λ part. (part, lexer.new.ahead)) result
         (line (part lines) (length (text_lines lexer.old.bytes)) lexer.old.ahead) }
     ensures some { IfOk result (λ part. part ≢ []) }

@@ -1,6 +1,7 @@
 pub mod Taking
 pub mod Numerals
 pub mod PlacesTake
+pub mod Refusals
 pub mod PositionsTake
 pub mod ListsTake
 pub mod LinesTake

@@ -2,5 +2,6 @@ pub mod Reading
 pub mod Places
 pub mod Forms
 pub mod Gives
+pub mod Taken
 pub mod Spelling
 pub mod Causality

@@ -27,6 +27,10 @@ Fills {A} spells place = (line : ℕ) (words : List (List ℕ)) (x : A) → (pla
 abbrev pub IsOneNumeral : ℕ → List (List ℕ) → Type 0
 IsOneNumeral n words = (word : List ℕ) × (words ≡ word ∷ []) × IsNumeralOf n word
 
+-- the first word that is left is a numeral of the number
+abbrev pub StartsWithNumeral : ℕ → List (List ℕ) → Type 0
+StartsWithNumeral n words = (word : List ℕ) × (more : List (List ℕ)) × (words ≡ word ∷ more) × IsNumeralOf n word
+
 -- numerals of the numbers, in order
 abbrev pub AreNumerals : List ℕ → List (List ℕ) → Type 0
 AreNumerals [] [] = Unit {0}

@@ -9,9 +9,9 @@ ghost use Rattle.line_lexer.specs.declared.refusal.Counted.{Counted};
 ghost use Rattle.line_lexer.specs.declared.refusal.TextRefusal.{TextRefusal};
 ghost use Rattle.text_forms.specs.Causality.{IsOnLine, FaultsOnLine, GivesCausally, RefusesCausally, RefusesAlike};
 ghost use Rattle.text_forms.specs.Forms.{Form, due, line, finished, version, counted, counted_within, of_text, whole_text};
-ghost use Rattle.text_forms.specs.Places.{Place, word, fixed, number, version_number, limited, entry, position, positions, some_positions, times};
+ghost use Rattle.text_forms.specs.Places.{Place, word, ended, fixed, number, version_number, limited, entry, position, positions, some_positions, times};
 ghost use Rattle.text_forms.specs.Reading.{Reads, chain, give};
-ghost use Rattle.text_forms.specs.Spelling.{IsNumeralOf, IsOneNumeral, IsNameAndNumeral, IsOneLine, AreNumerals, SpellsPositions, Takes, Fills};
+ghost use Rattle.text_forms.specs.Spelling.{IsNumeralOf, StartsWithNumeral, IsOneNumeral, IsNameAndNumeral, IsOneLine, AreNumerals, SpellsPositions, Takes, Fills};
 
 /// A word is read as a number exactly where it is a numeral of it. The decimal of a number below 10^9 is one, zeros may
 /// stand before it, and each numeral is a word.
@@ -96,6 +96,37 @@ pub fn lines_are_due()
         ↔ ((words : List (List ℕ)) × (more : List Line) × (text ≡ record { number = n; words = Some words } ∷ more)) }
     ensures bad_extra { (last n : ℕ) (text : List Line) → (finished last text ≡ Err (TextRefusal.Bad n TextFault.Byte))
         ↔ ((more : List Line) × (text ≡ record { number = n; words = None } ∷ more)) }
+{}
+
+/// What a refusal of a place says of the words that are left: there is none, or one too many; the first isn't the word
+/// that is due; it is no numeral; or it is a numeral of a number that the place doesn't take.
+pub fn words_are_refused()
+    ensures none { (text : List ℕ) (n : ℕ) (words : List (List ℕ)) →
+        (fixed text n words ≡ Err (TextRefusal.Bad n TextFault.Count)) ↔ (words ≡ []) }
+    ensures over { (n : ℕ) (words : List (List ℕ)) → (ended n words ≡ Err (TextRefusal.Bad n TextFault.Count)) ↔ (words ≢ []) }
+    ensures word { (text : List ℕ) (n : ℕ) (words : List (List ℕ)) → (fixed text n words ≡ Err (TextRefusal.Bad n TextFault.Word))
+        ↔ ((word : List ℕ) × (more : List (List ℕ)) × (words ≡ word ∷ more) × (word ≢ text)) }
+    ensures number { (n : ℕ) (words : List (List ℕ)) → (number n words ≡ Err (TextRefusal.Bad n TextFault.Number))
+        ↔ ((word : List ℕ) × (more : List (List ℕ)) × (words ≡ word ∷ more) × ((x : ℕ) → IsNumeralOf x word → ⊥)) }
+    ensures version { (n : ℕ) (words : List (List ℕ)) → (version_number n words ≡ Err (TextRefusal.Bad n TextFault.Version))
+        ↔ ((x : ℕ) × StartsWithNumeral x words × (x ≢ 1)) }
+    ensures entry { (order n : ℕ) (words : List (List ℕ)) → (entry order n words ≡ Err (TextRefusal.Bad n TextFault.Range))
+        ↔ ((x : ℕ) × StartsWithNumeral x words × (order ≤ x)) }
+    ensures range { (lines before n : ℕ) (words : List (List ℕ)) → (position lines before n words ≡ Err (TextRefusal.Bad n TextFault.Range))
+        ↔ ((x : ℕ) × StartsWithNumeral x words × ((x < 1) ⊎ (lines < x))) }
+    ensures order { (lines before n : ℕ) (words : List (List ℕ)) → (position lines before n words ≡ Err (TextRefusal.Bad n TextFault.Order))
+        ↔ ((x : ℕ) × StartsWithNumeral x words × ((1 ≤ x) × (x ≤ lines) × (x ≤ before))) }
+{}
+
+/// A number above its limit is refused exactly where the line has the name, and then a numeral of it; words that follow
+/// don't count.
+pub fn limits_are_refused()
+    ensures word { (what : Counted) (most x n : ℕ) (words : List (List ℕ)) → (limited what most n words ≡ Err (TextRefusal.Limit what x))
+        ↔ (StartsWithNumeral x words × (most < x)) }
+    ensures line { (name : List ℕ) (what : Counted) (most x last : ℕ) (text : List Line) →
+        (line (counted_within name what most) last text ≡ Err (TextRefusal.Limit what x))
+        ↔ ((n : ℕ) × (words : List (List ℕ)) × (more : List Line) × (text ≡ record { number = n; words = Some (name ∷ words) } ∷ more)
+        × StartsWithNumeral x words × (most < x)) }
 {}
 
 /// The faults of each place are on its line.

@@ -2,8 +2,8 @@
 //!
 //! A form of a text is a reader of lists (`specs/Reading.antt`): `specs/Places.antt` has the places of a line, and
 //! `specs/Forms.antt` the lines of a text. The first fault is the first refusal from left to right. Each reader of the
-//! code gives exactly what its form gives, as `specs/Gives.antt` says, and takes no memory. After a refusal the lexer has
-//! the same bytes, and stands somewhere on the lines that were read; a reader of a place leaves the line.
+//! code gives exactly what its form gives, as `specs/Gives.antt` says, and takes no memory. A reader of a line takes that
+//! line and no other, also where it refuses it (`specs/Taken.antt`); a reader of a place leaves the lines ahead.
 //!
 //! Above the forms stand laws. `specs/Spelling.antt`: a form gives a value exactly where the words spell it
 //! (`proofs/Taking.antt`, `PlacesTake.antt`, `ListsTake.antt`, `LinesTake.antt`). `specs/Causality.antt`: what a form gives
@@ -14,19 +14,14 @@
 mod laws;
 mod lines;
 mod places;
-#[cfg(test)]
-mod tests;
 mod words;
 
 pub use laws::{
-    chains_are_causal, chains_read_in_order, lines_are_causal, lines_are_due, lines_are_used_up,
-    lines_give_what_is_spelled, lists_give_what_is_spelled, numerals_are_read,
+    chains_are_causal, chains_read_in_order, limits_are_refused, lines_are_causal, lines_are_due,
+    lines_are_used_up, lines_give_what_is_spelled, lists_give_what_is_spelled, numerals_are_read,
     places_fault_on_their_line, places_give_what_is_spelled, refusals_are_causal,
-    written_lines_are_read,
+    words_are_refused, written_lines_are_read,
 };
 pub use lines::{alone_line, counted_line, due_line, limited_line, read_end, version_line};
-pub use places::{
-    entry_word, fixed_word, limited_number, number_word, position_or_end, position_word,
-    version_word,
-};
-pub use words::{due_word, end_of_line};
+pub use places::{entry_word, fixed_word, number_word, position_or_end, position_word};
+pub use words::end_of_line;

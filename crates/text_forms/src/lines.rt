@@ -4,6 +4,7 @@ ghost use Rattle.line_lexer.specs.Steps.{LeavesLine};
 ghost use Rattle.text_forms.specs.Forms.{due, line, finished, version, counted, counted_within};
 ghost use Rattle.text_forms.specs.Gives.{Gives, IsOfText};
 ghost use Rattle.text_forms.specs.Places.{fixed};
+ghost use Rattle.text_forms.specs.Taken.{after_line};
 
 use crate::places::{fixed_word, limited_number, number_word, version_word};
 use crate::words::end_of_line;
@@ -14,6 +15,7 @@ use line_lexer::{Counted, Lexer, TextFault, TextRefusal};
 #[tactic(auto, unfolding(crate::specs::Forms::due))]
 pub fn due_line(lexer: &mut Lexer<'_>) -> Result<(), TextRefusal>
     ensures bytes { lexer.new.bytes ≡ lexer.old.bytes }
+    ensures ahead { lexer.new.ahead ≡ after_line lexer.old.ahead }
     ensures gives { Gives (λ _. ((lexer.new.line, lexer.new.words), lexer.new.ahead)) result
         (due (length (text_lines lexer.old.bytes)) lexer.old.ahead) }
     ensures err { OnErr result (LeavesLine lexer.old lexer.new) }
@@ -34,6 +36,7 @@ pub fn due_line(lexer: &mut Lexer<'_>) -> Result<(), TextRefusal>
 #[tactic(auto, unfolding(crate::specs::Forms::finished))]
 pub fn read_end(lexer: &mut Lexer<'_>) -> Result<(), TextRefusal>
     ensures bytes { lexer.new.bytes ≡ lexer.old.bytes }
+    ensures ahead { lexer.new.ahead ≡ after_line lexer.old.ahead }
     ensures gives { Gives (λ _. (tt, lexer.new.ahead)) result
         (finished (length (text_lines lexer.old.bytes)) lexer.old.ahead) }
     ensures end { OnOk result (lexer.new.ahead ≡ []) }
@@ -53,6 +56,7 @@ pub fn read_end(lexer: &mut Lexer<'_>) -> Result<(), TextRefusal>
 #[tactic(auto, unfolding(crate::specs::Forms::line, crate::specs::Forms::version))]
 pub fn version_line(lexer: &mut Lexer<'_>, name: &[u8]) -> Result<(), TextRefusal>
     ensures bytes { lexer.new.bytes ≡ lexer.old.bytes }
+    ensures ahead { lexer.new.ahead ≡ after_line lexer.old.ahead }
     ensures gives { Gives (λ _. (tt, lexer.new.ahead)) result
         (line (version name.now) (length (text_lines lexer.old.bytes)) lexer.old.ahead) }
     ensures kind { IfErr result IsOfText }
@@ -69,6 +73,7 @@ pub fn version_line(lexer: &mut Lexer<'_>, name: &[u8]) -> Result<(), TextRefusa
 #[tactic(auto, unfolding(crate::specs::Forms::line, crate::specs::Forms::counted))]
 pub fn counted_line(lexer: &mut Lexer<'_>, name: &[u8]) -> Result<u32, TextRefusal>
     ensures bytes { lexer.new.bytes ≡ lexer.old.bytes }
+    ensures ahead { lexer.new.ahead ≡ after_line lexer.old.ahead }
     ensures gives { Gives (λ n. (n, lexer.new.ahead)) result
         (line (counted name.now) (length (text_lines lexer.old.bytes)) lexer.old.ahead) }
     ensures kind { IfErr result IsOfText }
@@ -90,6 +95,7 @@ pub fn limited_line(
     most: u32,
 ) -> Result<u32, TextRefusal>
     ensures bytes { lexer.new.bytes ≡ lexer.old.bytes }
+    ensures ahead { lexer.new.ahead ≡ after_line lexer.old.ahead }
     ensures gives { Gives (λ n. (n, lexer.new.ahead)) result
         (line (counted_within name.now what most) (length (text_lines lexer.old.bytes)) lexer.old.ahead) }
     ensures kind { what ≢ Counted.Bytes → IfErr result IsOfText }
@@ -106,6 +112,7 @@ pub fn limited_line(
 #[tactic(auto, unfolding(crate::specs::Forms::line))]
 pub fn alone_line(lexer: &mut Lexer<'_>, name: &[u8]) -> Result<(), TextRefusal>
     ensures bytes { lexer.new.bytes ≡ lexer.old.bytes }
+    ensures ahead { lexer.new.ahead ≡ after_line lexer.old.ahead }
     ensures gives { Gives (λ _. (tt, lexer.new.ahead)) result
         (line (fixed name.now) (length (text_lines lexer.old.bytes)) lexer.old.ahead) }
     ensures kind { IfErr result IsOfText }

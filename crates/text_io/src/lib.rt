@@ -2,8 +2,9 @@
 //!
 //! A program that is written over [`Source`] and [`Sink`] says in its contracts what it does with
 //! every byte: a source may tell the bytes that are still to come and a sink those that were
-//! written, and each counts the calls that failed. So a failed call can't pass for the end of the
-//! input, and no fault can be passed over.
+//! written, and each has a count that a failed call raises, or finds at its last value, and that
+//! no other call changes. So a failed call can't pass for the end of the input, and no fault can be
+//! passed over.
 //!
 //! - [`read_all`] reads to the end, or says why not. Its contract ties each answer to the bytes and
 //!   the counts; the invariant of its loop stands in `proofs/reading/read_all`.
@@ -14,7 +15,8 @@
 //!   exactly what each call does.
 //! - [`StdSource`] and [`StdSink`] stand over a reader and a writer of std. Where these tell their
 //!   bytes, the contracts pass that on. What the system gives and takes is outside of any proof, and
-//!   that each error becomes a fault and that the sink flushes is tested.
+//!   that each error becomes a fault, that no call is tried again and that the sink flushes is
+//!   tested.
 //!
 //! The definitions that the contracts cite are in `specs/`: `Counts` for counts that stay at their
 //! last value, `Told` for bytes that may be told, `Reading` for the causes of an answer of

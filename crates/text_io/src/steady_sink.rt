@@ -29,13 +29,6 @@ impl SteadySink {
     {
         SteadySink { count: 0 }
     }
-
-    /// How many bytes it was given. The count stays at 2^64 - 1 once it has reached that.
-    pub fn count(&self) -> u64
-        ensures { result ≡ self.now }
-    {
-        self.count
-    }
 }
 
 impl Sink for SteadySink {

@@ -21,3 +21,5 @@ mod sets;
 mod subspaces;
 #[cfg(test)]
 mod verdicts;
+#[cfg(test)]
+mod walks;

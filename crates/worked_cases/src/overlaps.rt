@@ -1,27 +1,14 @@
 //! Overlaps, their points, and what they raise.
 
-use crate::reading::{choice, problem, shown, shown_set};
+use crate::places::{SECOND_AND_FOURTH, ready};
+use crate::reading::{problem, shown, shown_set};
 use field_core::Field;
-use matching_state::{Matched, Start};
+use matching_state::Matched;
 use overlap::{Overlap, at, find, raise};
-use parity_lines::Problem;
 use small_fields::{F2, F251};
-use std::alloc::{AllocError, Global};
+use std::alloc::AllocError;
 use std::process::Abort;
 use std::test::Fail;
-
-/// The state of the set that a text chooses.
-fn ready<'a, F: Field>(
-    rt: &impl Abort,
-    alloc: Global,
-    problem: &'a Problem<F>,
-    text: &str,
-) -> Result<Matched<'a, F>, AllocError> {
-    match Matched::start(alloc, problem, &choice(rt, alloc, problem, text))? {
-        Start::Ready(state) => Ok(state),
-        Start::Relation(_) => panic!(rt; "the set is independent"),
-    }
-}
 
 /// The overlap of the two lines that the search finds. They and its point are as given.
 fn overlap<'a, F: Field>(
@@ -36,10 +23,8 @@ fn overlap<'a, F: Field>(
     };
     let found = find(state)?.expect(rt, "an overlap");
     let (first, second) = found.lines();
-    assert_eq!(rt;
-        format!(in alloc; "{} {}", first as u128 + 1, second as u128 + 1)?.as_str(),
-        lines
-    );
+    let shown_lines = format!(in alloc; "{} {}", first as u128 + 1, second as u128 + 1)?;
+    assert_eq!(rt; shown_lines.as_str(), lines);
     assert_eq!(rt; shown(alloc, found.point())?.as_str(), point);
     let again = at(state, first, second)?;
     assert_eq!(rt; shown(alloc, again.point())?.as_str(), point);
@@ -65,28 +50,32 @@ const BRANCH: &str = "parity 1\nfield 2\ndimension 7\nlines 6\n\
     line 0 0 1 0 0 0 0 | 0 0 0 1 0 0 0\nline 0 0 0 1 0 0 0 | 0 0 0 0 1 0 0\n\
     line 0 0 0 0 1 0 0 | 0 0 0 0 0 1 0\nline 0 0 0 0 0 0 1 | 0 1 0 0 0 0 0\n";
 
+const THIRD_AND_FIFTH: &str = "choice 1\nsize 2\nset 3 5\nend\n";
+
 #[test]
 fn branch_overlaps_at_a_vertex(rt: HostRuntime) -> Result<(), Fail> {
     let alloc = rt.alloc();
     let branch = problem::<F2>(&rt, alloc, BRANCH);
-    let state = ready(&rt, alloc, &branch, "choice 1\nsize 2\nset 2 4\nend\n")?;
+    let state = ready(&rt, alloc, &branch, SECOND_AND_FOURTH)?;
     let found = overlap(&rt, &state, "1 6", "0 1 0 0 0 0 0")?;
-    let other = ready(&rt, alloc, &branch, "choice 1\nsize 2\nset 3 5\nend\n")?;
+    let other = ready(&rt, alloc, &branch, THIRD_AND_FIFTH)?;
     let longer = raised(&rt, &found, &other)?;
     assert!(rt; longer.as_str() == "1 3 5" || longer.as_str() == "3 5 6");
     Ok(())
 }
 
-/// Two lines, and two whose tips have the components 3 and 5, and twice and three times as much.
+/// Two lines, and two whose tips have the components 3 and 5 there, and twice and three times as much.
 const TIPS: &str = "parity 1\nfield 251\ndimension 6\nlines 4\n\
     line 1 0 0 0 0 0 | 0 1 0 0 0 0\nline 0 0 1 0 0 0 | 0 0 0 1 0 0\n\
     line 3 0 5 0 0 0 | 0 0 0 0 1 0\nline 6 0 15 0 0 0 | 0 0 0 0 0 1\n";
+
+const FIRST_AND_SECOND: &str = "choice 1\nsize 2\nset 1 2\nend\n";
 
 #[test]
 fn point_keeps_one_ratio(rt: HostRuntime) -> Result<(), Fail> {
     let alloc = rt.alloc();
     let tips = problem::<F251>(&rt, alloc, TIPS);
-    let state = ready(&rt, alloc, &tips, "choice 1\nsize 2\nset 1 2\nend\n")?;
+    let state = ready(&rt, alloc, &tips, FIRST_AND_SECOND)?;
     let _found = overlap(&rt, &state, "3 4", "3 0 0 0 0 0")?;
     Ok(())
 }

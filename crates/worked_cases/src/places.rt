@@ -10,7 +10,7 @@ use std::process::Abort;
 use std::test::Fail;
 
 /// The state of the set that a text chooses.
-fn ready<'a, F: Field>(
+pub fn ready<'a, F: Field>(
     rt: &impl Abort,
     alloc: Global,
     problem: &'a Problem<F>,
@@ -23,12 +23,19 @@ fn ready<'a, F: Field>(
 }
 
 /// The place of a line in words, with its support where it is exposed.
-fn place<F: Field>(rt: &impl Abort, state: &Matched<'_, F>, line: usize) -> Result<String, AllocError> {
+fn place<F: Field>(
+    rt: &impl Abort,
+    state: &Matched<'_, F>,
+    line: usize,
+) -> Result<String, AllocError> {
     assert!(rt; line < state.problem().len());
     match state.position(line)? {
         Place::Inside => String::from_str(state.alloc(), "inside"),
         Place::Single { .. } => String::from_str(state.alloc(), "single"),
-        Place::Exposed { support, .. } => format!(in state.alloc(); "exposed {}", shown_set(state.alloc(), &support)?),
+        Place::Exposed { support, .. } => format!(in state.alloc();
+            "exposed {}",
+            shown_set(state.alloc(), &support)?
+        ),
         Place::Free => String::from_str(state.alloc(), "free"),
     }
 }
@@ -41,39 +48,50 @@ fn step<F: Field>(state: &Matched<'_, F>) -> Result<String, AllocError> {
     }
 }
 
-/// Asserts that the lines have these places, in order, and that the step is one of those that are possible.
-fn assert_places<F: Field>(
+/// The places of all lines, in order.
+fn places<F: Field>(rt: &impl Abort, state: &Matched<'_, F>) -> Result<String, AllocError> {
+    let mut text = String::new(state.alloc());
+    for line in 0..state.problem().len() {
+        if line > 0 {
+            text.push_str(", ")?;
+        }
+        text.push_str(place(rt, state, line)?.as_str())?;
+    }
+    Ok(text)
+}
+
+/// Asserts what the places of the lines are, and answers the step.
+fn step_at<F: Field>(
     rt: &impl Abort,
     alloc: Global,
     text: &str,
     chosen: &str,
-    places: &str,
-    steps: &str,
-) -> Result<(), AllocError> {
+    want: &str,
+) -> Result<String, AllocError> {
     let problem = problem::<F>(rt, alloc, text);
     let state = ready(rt, alloc, &problem, chosen)?;
-    let mut line = 0;
-    for want in places.split(", ") {
-        assert_eq!(rt; place(rt, &state, line)?.as_str(), want);
-        line += 1;
-    }
-    assert_eq!(rt; line, problem.len());
-    let found = step(&state)?;
-    assert!(rt; steps.split(", ").any(|set| set == found.as_str()), "a step to {found}");
-    Ok(())
+    assert_eq!(rt; places(rt, &state)?.as_str(), want);
+    step(&state)
 }
 
 /// Three lines, of which the last two can take the place of the first.
-const THREE: &str = "parity 1\nfield 3\ndimension 4\nlines 3\n\
+pub const THREE: &str = "parity 1\nfield 3\ndimension 4\nlines 3\n\
     line 1 0 0 0 | 0 1 0 0\nline 2 0 0 0 | 0 0 1 0\nline 0 2 0 0 | 0 0 1 1\n";
 
-const FIRST: &str = "choice 1\nsize 1\nset 1\nend\n";
+pub const FIRST: &str = "choice 1\nsize 1\nset 1\nend\n";
 
 const NONE: &str = "choice 1\nsize 0\nset\nend\n";
 
 #[test]
 fn two_lines_take_the_place_of_one(rt: HostRuntime) -> Result<(), Fail> {
-    assert_places::<F3>(&rt, rt.alloc(), THREE, FIRST, "inside, exposed 1, exposed 1", "2 3")?;
+    let step = step_at::<F3>(
+        &rt,
+        rt.alloc(),
+        THREE,
+        FIRST,
+        "inside, exposed 1, exposed 1",
+    )?;
+    assert_eq!(rt; step.as_str(), "2 3");
     Ok(())
 }
 
@@ -85,44 +103,36 @@ const DEGENERATE: &str = "parity 1\nfield 5\ndimension 3\nlines 6\n\
 #[test]
 fn degenerate_lines_have_places(rt: HostRuntime) -> Result<(), Fail> {
     let alloc = rt.alloc();
-    assert_places::<F5>(
-        &rt,
-        alloc,
-        DEGENERATE,
-        FIRST,
-        "inside, inside, inside, single, inside, exposed 1",
-        "none",
-    )?;
-    assert_places::<F5>(
-        &rt,
-        alloc,
-        DEGENERATE,
-        NONE,
-        "free, inside, single, single, free, free",
-        "1, 5, 6",
-    )?;
+    let over_one = "inside, inside, inside, single, inside, exposed 1";
+    assert_eq!(rt;
+        step_at::<F5>(&rt, alloc, DEGENERATE, FIRST, over_one)?.as_str(),
+        "none"
+    );
+    let over_none = "free, inside, single, single, free, free";
+    assert!(rt; step_at::<F5>(&rt, alloc, DEGENERATE, NONE, over_none)?.as_str() != "none");
     Ok(())
 }
 
+/// A path of five edges as lines.
+pub const PATH: &str = "parity 1\nfield 2\ndimension 6\nlines 5\n\
+    line 1 0 0 0 0 0 | 0 1 0 0 0 0\nline 0 1 0 0 0 0 | 0 0 1 0 0 0\nline 0 0 1 0 0 0 | 0 0 0 1 0 0\n\
+    line 0 0 0 1 0 0 | 0 0 0 0 1 0\nline 0 0 0 0 1 0 | 0 0 0 0 0 1\n";
+
+pub const SECOND_AND_FOURTH: &str = "choice 1\nsize 2\nset 2 4\nend\n";
+
 #[test]
 fn path_has_no_direct_step(rt: HostRuntime) -> Result<(), Fail> {
-    assert_places::<F2>(
-        &rt,
-        rt.alloc(),
-        "parity 1\nfield 2\ndimension 6\nlines 5\n\
-            line 1 0 0 0 0 0 | 0 1 0 0 0 0\nline 0 1 0 0 0 0 | 0 0 1 0 0 0\nline 0 0 1 0 0 0 | 0 0 0 1 0 0\n\
-            line 0 0 0 1 0 0 | 0 0 0 0 1 0\nline 0 0 0 0 1 0 | 0 0 0 0 0 1\n",
-        "choice 1\nsize 2\nset 2 4\nend\n",
-        "exposed 2, inside, inside, inside, exposed 4",
-        "none",
-    )?;
+    let places = "exposed 2, inside, inside, inside, exposed 4";
+    let step = step_at::<F2>(&rt, rt.alloc(), PATH, SECOND_AND_FOURTH, places)?;
+    assert_eq!(rt; step.as_str(), "none");
     Ok(())
 }
 
 #[test]
 fn space_of_no_dimension_has_no_free_line(rt: HostRuntime) -> Result<(), Fail> {
     let text = "parity 1\nfield 2\ndimension 0\nlines 2\nline |\nline |\n";
-    assert_places::<F2>(&rt, rt.alloc(), text, NONE, "inside, inside", "none")?;
+    let step = step_at::<F2>(&rt, rt.alloc(), text, NONE, "inside, inside")?;
+    assert_eq!(rt; step.as_str(), "none");
     Ok(())
 }
 
@@ -137,10 +147,15 @@ fn vectors_have_coordinates(rt: HostRuntime) -> Result<(), Fail> {
         alloc,
         "parity 1\nfield 3\ndimension 4\nlines 1\nline 1 1 0 0 | 1 1 0 1\n",
     );
-    assert!(rt; vectors.len() == 1 && vectors.dimension() == three.dimension());
-    let inside = state.coordinates(vectors.first(0))?.expect(&rt, "a vector of the span");
-    assert_eq!(rt; shown(alloc, inside.as_slice())?.as_str(), "1 1");
-    assert!(rt; state.coordinates(vectors.second(0))?.is_none());
+    assert!(rt; vectors.len() == 1);
+    let (inside, outside) = (vectors.first(0), vectors.second(0));
+    assert!(rt; inside.len() == state.problem().dimension());
+    assert!(rt; outside.len() == state.problem().dimension());
+    let coordinates = state
+        .coordinates(inside)?
+        .expect(&rt, "a vector of the span");
+    assert_eq!(rt; shown(alloc, coordinates.as_slice())?.as_str(), "1 1");
+    assert!(rt; state.coordinates(outside)?.is_none());
     Ok(())
 }
 

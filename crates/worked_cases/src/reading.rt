@@ -45,12 +45,7 @@ pub fn answer<F: Field>(
 }
 
 /// The lines of the problem that a text chooses.
-pub fn choice<F: Field>(
-    rt: &impl Abort,
-    alloc: Global,
-    problem: &Problem<F>,
-    text: &str,
-) -> LineSet
+pub fn choice<F: Field>(rt: &impl Abort, alloc: Global, problem: &Problem<F>, text: &str) -> LineSet
     ensures { All (λ m. m < length problem.now.lines) result }
 {
     assert!(rt; text.len() <= 4_194_304);

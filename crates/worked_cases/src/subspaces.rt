@@ -113,23 +113,51 @@ fn spans_are_reduced(rt: HostRuntime) -> Result<(), Fail> {
     Ok(())
 }
 
+/// The vector modulo the point.
+fn projected<F: Field>(
+    rt: &impl Abort,
+    alloc: Global,
+    point: &[F],
+    v: &[F],
+) -> Result<String, AllocError> {
+    assert!(rt; !is_zero(point));
+    let quotient = Quotient::quotient_by(alloc, point)?;
+    assert!(rt; v.len() == point.len());
+    shown(alloc, quotient.project(v)?.as_slice())
+}
+
+/// The vector whose projection modulo the point is the shorter one.
+fn lifted<F: Field>(
+    rt: &impl Abort,
+    alloc: Global,
+    point: &[F],
+    w: &[F],
+) -> Result<String, AllocError> {
+    assert!(rt; !is_zero(point));
+    let quotient = Quotient::quotient_by(alloc, point)?;
+    assert!(rt; w.len() < point.len() && w.len() + 1 == point.len());
+    shown(alloc, quotient.lift(w)?.as_slice())
+}
+
 #[test]
 fn vectors_are_divided_by_a_point(rt: HostRuntime) -> Result<(), Fail> {
     let alloc = rt.alloc();
     let whole = lines::<F3>(&rt, alloc, "dimension 3\nlines 1\nline 0 2 1 | 1 1 1\n");
     let shorter = lines::<F3>(&rt, alloc, "dimension 2\nlines 1\nline 1 2 | 0 0\n");
-    assert!(rt; whole.len() == 1 && whole.dimension() == 3 && shorter.len() == 1 && shorter.dimension() == 2);
+    assert!(rt; whole.len() == 1 && shorter.len() == 1);
     let point = whole.first(0);
-    assert!(rt; !is_zero(point));
-    let quotient = Quotient::quotient_by(alloc, point)?;
-    let projections = [
-        (quotient.project(whole.second(0))?, "1 2"),
-        (quotient.project(point)?, "0 0"),
-        (quotient.lift(shorter.first(0))?, "1 0 2"),
-        (quotient.lift(shorter.second(0))?, "0 0 0"),
-    ];
-    for (row, want) in &projections {
-        assert_eq!(rt; shown(alloc, row.as_slice())?.as_str(), *want);
-    }
+    assert_eq!(rt;
+        projected(&rt, alloc, point, whole.second(0))?.as_str(),
+        "1 2"
+    );
+    assert_eq!(rt; projected(&rt, alloc, point, point)?.as_str(), "0 0");
+    assert_eq!(rt;
+        lifted(&rt, alloc, point, shorter.first(0))?.as_str(),
+        "1 0 2"
+    );
+    assert_eq!(rt;
+        lifted(&rt, alloc, point, shorter.second(0))?.as_str(),
+        "0 0 0"
+    );
     Ok(())
 }

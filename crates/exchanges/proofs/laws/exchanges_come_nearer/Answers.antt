@@ -4,9 +4,7 @@ use Rattle.exchanges.proofs.ReachedSets.{kept_by_exchange, nearer_by_exchange}
 use Rattle.exchanges.proofs.laws.exchanges_come_nearer.Goals as goal
 
 pub returns-clause-kept : goal.returns-clause-kept
-returns-clause-kept c = λ S p keep T M N out into F P i t k m e l. (
-    let r = kept_by_exchange S F p P keep T t.within M N out into i e.can e.swap k m l in
-    (r.independent, r.as_long, r.missed))
+returns-clause-kept c = λ S p keep T M N out into F P i t k m e l. kept_by_exchange S F p P keep T t.within M N out into i e.can e.swap k m l
 
 pub returns-clause-nearer : goal.returns-clause-nearer
 returns-clause-nearer c = λ S p keep T M N out into F P i t e l.

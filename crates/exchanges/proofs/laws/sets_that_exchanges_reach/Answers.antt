@@ -6,9 +6,7 @@ use Rattle.exchanges.proofs.ReachedSets.{kept_by_exchanges}
 use Rattle.exchanges.proofs.laws.sets_that_exchanges_reach.Goals as goal
 
 pub returns-clause-kept : goal.returns-clause-kept
-returns-clause-kept c = λ S p keep T M N F P i t k m r. (
-    let h = kept_by_exchanges S F p P keep T t.within k M N i m r in
-    (h.independent, h.as_long, h.missed))
+returns-clause-kept c = λ S p keep T M N F P i t k m r. kept_by_exchanges S F p P keep T t.within k M N i m r
 
 pub returns-clause-lines : goal.returns-clause-lines
 returns-clause-lines c = λ S p keep T M N l r. lines_reached S p keep T M l N r

@@ -1,7 +1,7 @@
-use Rattle.std.proofs.Common.{None, Some, map, inl, inr, sym, ◌∙◌, subst}
+use Rattle.std.proofs.Common.{None, Some, inl, inr, sym, ◌∙◌, subst}
 use Rattle.linear_algebra.specs.Vectors.{AreVectors}
-use Rattle.exchanges.proofs.OffersOfLines.{spanned_offers_nothing, closed_offers_nothing, exchange_found}
-use Rattle.exchanges.specs.Offers.{OffersNothing, TellsLineOut}
+use Rattle.exchanges.proofs.OffersOfLines.{line_out_told, spanned_offers_nothing, closed_offers_nothing, exchange_found}
+use Rattle.exchanges.specs.Offers.{OffersNothing}
 use Rattle.matching_state.specs.Places.{IsPlace}
 use Rattle.matching_state.proofs.Ties.{in_line_vector}
 use Rattle.parity_lines.specs.Problems.{IsProblem}
@@ -27,10 +27,8 @@ returns-in-Some g c =
     let place = subst (IsPlace S p M c.args.line) c.in-Exposed.is c.in_ok-position.ensures in
     let tip = place.2 in
     let k = subst (λ d. AreVectors S d vs) c.requires.width c.rank-rank.ensures.vectors in
-    let told = subst (λ d. TellsLineOut S d vs T c.in-Exposed.outer c.in-Exposed.support (Some c.in-Some.out)) c.requires.width
-    (subst (λ w. TellsLineOut S c.args.basis.now.width vs T w c.in-Exposed.support (Some c.in-Some.out)) c.as_slice.ensures.value
-    (subst (TellsLineOut S c.args.basis.now.width vs T (map g.F.Field.number c.as_slice.result.now) c.in-Exposed.support) c.in-Some.is
-    c.in_ok-out-in-Exposed.ensures)) in
+    let told = line_out_told S p.dimension c.args.basis.now.width vs T _ c.in-Exposed.outer c.in-Exposed.support c.in_ok-out-in-Exposed.field-0 (Some c.in-Some.out)
+    c.requires.width c.as_slice.ensures.value c.in-Some.is c.in_ok-out-in-Exposed.ensures in
     exchange_found S g.met.F.Field.lawful p P M c.set-set.ensures.independent T c.args.line c.requires.within vs k place.0
     c.in-Exposed.tip tip.0 c.in-Exposed.outer tip.1 place.1 c.in-Exposed.support tip.2
     c.requires.in_target told.0 c.in-Some.out told.1 told.2
@@ -48,10 +46,8 @@ returns g c =
     let place = subst (IsPlace S p M c.args.line) c.in-Exposed.is c.in_ok-position.ensures in
     let tip = place.2 in
     let k = subst (λ d. AreVectors S d vs) c.requires.width c.rank-rank.ensures.vectors in
-    let told = subst (λ d. TellsLineOut S d vs T c.in-Exposed.outer c.in-Exposed.support None) c.requires.width
-    (subst (λ w. TellsLineOut S c.args.basis.now.width vs T w c.in-Exposed.support None) c.as_slice.ensures.value
-    (subst (TellsLineOut S c.args.basis.now.width vs T (map g.F.Field.number c.as_slice.result.now) c.in-Exposed.support) c.in-None.is
-    c.in_ok-out-in-Exposed.ensures)) in
+    let told = line_out_told S p.dimension c.args.basis.now.width vs T _ c.in-Exposed.outer c.in-Exposed.support c.in_ok-out-in-Exposed.field-0 None
+    c.requires.width c.as_slice.ensures.value c.in-None.is c.in_ok-out-in-Exposed.ensures in
     elim told as (λ _. OffersNothing S p vs T M c.args.line) [
       | inl s ↦ spanned_offers_nothing S F p P M i T c.args.line c.requires.within vs k place.0 c.in-Exposed.tip tip.0 c.in-Exposed.outer
           tip.1 place.1 c.requires.spans s

@@ -2,7 +2,7 @@ use Rattle.std.proofs.Common.{subst, sym}
 use Rattle.echelon.specs.Grown.{Grows, SpansMore}
 use Rattle.linear_algebra.specs.Vectors.{AreVectors}
 use Rattle.exchanges.proofs.GrownByRows.{is_basis_of_set, grown_span}
-use Rattle.exchanges.proofs.NoRelation.{no_relation}
+use Rattle.parity_lines.proofs.NoRelation.{no_relation}
 use Rattle.parity_lines.proofs.Border.{vectors_at-vectors}
 use Rattle.parity_lines.specs.Independence.{TellsBasis}
 use Rattle.parity_lines.specs.Problems.{IsProblem, vectors_at}

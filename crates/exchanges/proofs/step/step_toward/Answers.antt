@@ -1,6 +1,5 @@
-use Rattle.std.proofs.Common.{◌++◌, MatchOption, sym, subst}
+use Rattle.std.proofs.Common.{◌++◌, MatchOption, subst}
 use Rattle.linear_algebra.specs.Vectors.{AreVectors}
-use Rattle.matching_state.specs.Missing.{Misses}
 use Rattle.parity_lines.specs.LineSets.{IsIndependentSet}
 use Rattle.parity_lines.specs.Problems.{IsProblem, vectors_at}
 use Rattle.exchanges.proofs.ReachedSets.{kept_by_exchange}
@@ -8,8 +7,8 @@ use Rattle.exchanges.specs.Exchanges.{IsSettled}
 use Rattle.exchanges.specs.Offers.{IsOffer}
 use Rattle.exchanges.proofs.step.step_toward.Goals as goal
 
-pub returns-in_ok-swap-in-Some-Exchange-clause-missed : goal.returns-in_ok-swap-in-Some-Exchange-clause-missed
-returns-in_ok-swap-in-Some-Exchange-clause-missed g c =
+pub returns-in_ok-swap-in-Some-Exchange-clause-kept : goal.returns-in_ok-swap-in-Some-Exchange-clause-kept
+returns-in_ok-swap-in-Some-Exchange-clause-kept g c =
     let S = g.F.Field.scalars in
     let p = c.args.state.now.problem in
     let M = c.args.state.now.set in
@@ -25,6 +24,4 @@ returns-in_ok-swap-in-Some-Exchange-clause-missed g c =
     (subst (λ found. MatchOption found (IsSettled S p keep T M) (IsOffer S p vs T M)) c.in-Some-Exchange.is c.in_ok-out.ensures) in
     let e = c.in_ok-swap-in-Some-Exchange.ensures in
     let after = subst (λ q. IsIndependentSet S q N) e.problem e.independent in
-    subst (λ q. Misses S q N keep) (sym e.problem)
-    (kept_by_exchange S g.met.F.Field.lawful p P keep T c.requires.within M N out into c.set-set.ensures.independent can e.ok k
-    c.requires.missed after.line_set).missed
+    kept_by_exchange S g.met.F.Field.lawful p P keep T c.requires.within M N out into c.set-set.ensures.independent can e.ok k c.requires.missed after.line_set

@@ -4,7 +4,7 @@ use Rattle.matching_state.specs.States.{TellsStart}
 use Rattle.matching_state.specs.Steps.{IsSwap}
 use Rattle.parity_lines.specs.LineSets.{IsIndependentSet}
 use Rattle.parity_lines.specs.Problems.{ParityProblem, IsProblem, vectors_at}
-use Rattle.exchanges.proofs.NoRelation.{no_relation}
+use Rattle.parity_lines.proofs.NoRelation.{no_relation}
 use Rattle.exchanges.proofs.SwappedSets.{goes_out, comes_in, within_after, independent_after}
 use Rattle.exchanges.proofs.swapping.swap.Goals as goal
 

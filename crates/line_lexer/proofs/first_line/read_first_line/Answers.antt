@@ -1,5 +1,5 @@
 use Rattle.std.proofs.Common.{rules, arith}
-use Rattle.line_lexer.proofs.FirstLine.{content-is, is_bad, is_passed_over, has_words}
+use Rattle.line_lexer.proofs.FirstLine.{Found, content-is, is_bad, is_passed_over, has_words, has_places}
 use Rattle.line_lexer.proofs.first_line.read_first_line.Goals as goal
 
 pub returns-then-not-is_plain-clause-line : goal.returns-then-not-is_plain-clause-line
@@ -15,17 +15,14 @@ returns-then-not-is_plain-clause-line c =
 
 pub returns-then-start-end-clause-line : goal.returns-then-start-end-clause-line
 returns-then-start-end-clause-line c =
-    let content = content-is _ _ _ _ c.without_return-line.ensures c.comment_start-end.ensures.value in (
-      has_words _ c.without_return-line.result.now c.line_end-len.result c.comment_start-end.result _ _
-          (record {
-            some = c.requires;
-            len_is = c.line_end-len.ensures.value;
-            next_is = search rules;
-            content = content;
-          })
+    let content = content-is _ _ _ _ c.without_return-line.ensures c.comment_start-end.ensures.value in
+    let found : Found c.args.text.now c.without_return-line.result.now c.line_end-len.result c.comment_start-end.result c.min-next.result =
+    record { some = c.requires; len_is = c.line_end-len.ensures.value; next_is = search rules; content = content } in (
+      has_words _ _ _ _ _ _ found
           (search rules)
           c.word_start-start.ensures.value
           (search rules),
+      has_places _ _ _ _ _ _ found c.word_start-start.ensures.value (search rules),
       omega arith,
       content.within,
     )

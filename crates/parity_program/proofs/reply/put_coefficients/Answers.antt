@@ -13,7 +13,7 @@ loop-c-preserved g c =
     let lt : i < length (map decimal (map f cs)) = rw (length-map (map f cs) decimal, length-map cs f) within in
     each_goes_on (λ w. 32 ∷ w) (map decimal (map f cs)) i [] _ _ _ _ lt
     (number_piece f cs i c.c-item.result c.from.result within c.c-item.is (c.from.ensures ∙ c.number.ensures)) c.loop-c.invariant
-    (both _ _ _ (32 ∷ []) (decimal c.from.result) c.in_ok-push.ensures.items c.in_ok-put_number.ensures)
+    (both c.loop-c.out.items c.push.new.self.items c.put_number.new.out.items (32 ∷ []) (decimal c.from.result) c.in_ok-push.ensures.items c.in_ok-put_number.ensures)
 
 pub returns : goal.returns
 returns g c =

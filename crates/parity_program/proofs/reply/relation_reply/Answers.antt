@@ -20,6 +20,6 @@ pub returns : goal.returns
 returns g c =
     let cs = map g.F.Field.number c.as_slice.result.now in
     let started = rw c.new-text.ensures.items at c.in_ok-extend_from_slice.ensures.items in
-    let rest = both _ _ _ (flat_map (λ w. 32 ∷ w) (map decimal cs)) (10 ∷ []) c.in_ok-put_coefficients.ensures c.in_ok-push.ensures.items in
+    let rest = both _ _ c.push.new.self.items (flat_map (λ w. 32 ∷ w) (map decimal cs)) (10 ∷ []) c.in_ok-put_coefficients.ensures c.in_ok-push.ensures.items in
     ap (λ (t : List ℕ). let reply : ReplyText = record { text = t; negative = true } in reply)
-    (both [] _ _ (codes "no dependent\nrelation") _ started rest ∙ relation_text cs ∙ ap (λ xs. spelled (improvement_lines (dependent xs))) c.as_slice.ensures.value)
+    (both [] _ c.push.new.self.items (codes "no dependent\nrelation") _ started rest ∙ relation_text cs ∙ ap (λ xs. spelled (improvement_lines (dependent xs))) c.as_slice.ensures.value)

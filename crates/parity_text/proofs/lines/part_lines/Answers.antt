@@ -1,6 +1,7 @@
 use Rattle.std.proofs.Common.{rules, arith, ◌≡◌, ◌++◌, ◌∷◌, [], length, ap}
 use Rattle.line_lexer.specs.Lines.{lines}
 use Rattle.text_forms.specs.Forms.{line}
+use Rattle.text_forms.specs.Places.{times}
 use Rattle.text_forms.proofs.Loops.{times_goes_on, times_stops, times_is_done}
 use Rattle.parity_text.specs.Texts.{part}
 use Rattle.parity_text.proofs.lines.part_lines.Goals as goal
@@ -8,7 +9,7 @@ use Rattle.parity_text.proofs.lines.part_lines.Goals as goal
 pub returns-in-Err-clause-gives : goal.returns-in-Err-clause-gives
 returns-in-Err-clause-gives c =
     let same = ap (λ bytes. length (lines bytes)) c.loop-i.invariant.bytes in
-    times_stops (line (part c.args.lines)) _ c.in-Err.refusal c.args.count c.loop-i.i _ _ _ _ c.loop-i-test.true same c.in-Err.ensures.gives c.loop-i.invariant.rest
+    times_stops (line (part c.args.lines)) _ c.in-Err.refusal c.args.count c.loop-i.i _ _ _ (times c.args.count (line (part c.args.lines)) (length (lines c.args.lexer.now.bytes)) c.args.lexer.now.ahead) c.loop-i-test.true same c.in-Err.ensures.gives c.loop-i.invariant.rest
 
 pub loop-i-preserved : goal.loop-i-preserved
 loop-i-preserved c =
@@ -16,8 +17,8 @@ loop-i-preserved c =
     let pushed : c.push.new.self ≡ c.loop-i.parts ++ c.in-Ok.part ∷ [] = search rules in
     record {
       bytes = search rules;
-      rest = times_goes_on (line (part c.args.lines)) _ _ _ c.args.count c.loop-i.i _ _ _ _ _ c.loop-i-test.true same pushed c.in-Ok.ensures.gives c.loop-i.invariant.rest;
+      rest = times_goes_on (line (part c.args.lines)) _ _ _ c.args.count c.loop-i.i _ _ _ _ (times c.args.count (line (part c.args.lines)) (length (lines c.args.lexer.now.bytes)) c.args.lexer.now.ahead) c.loop-i-test.true same pushed c.in-Ok.ensures.gives c.loop-i.invariant.rest;
     }
 
 pub returns-clause-gives : goal.returns-clause-gives
-returns-clause-gives c = times_is_done (line (part c.args.lines)) _ c.args.count c.loop-i.i _ _ _ (omega arith) c.loop-i.invariant.rest
+returns-clause-gives c = times_is_done (line (part c.args.lines)) _ c.args.count c.loop-i.i _ _ (times c.args.count (line (part c.args.lines)) (length (lines c.args.lexer.now.bytes)) c.args.lexer.now.ahead) (omega arith) c.loop-i.invariant.rest

@@ -1,12 +1,13 @@
 use Rattle.std.proofs.Common.{rules, arith, ◌≡◌, ◌++◌, ◌∷◌, [], map, ap, ◌∙◌}
 use Rattle.std.proofs.lemmas.List.{map_push}
 use Rattle.text_forms.specs.Places.{entry}
+use Rattle.parity_text.specs.Texts.{vector}
 use Rattle.text_forms.proofs.Loops.{times_goes_on, times_stops, times_is_done}
 use Rattle.parity_text.proofs.vectors.vector_words.Goals as goal
 
 pub returns-in-Err-clause-gives : goal.returns-in-Err-clause-gives
 returns-in-Err-clause-gives g c =
-    times_stops (entry g.F.Field.scalars.order) _ c.in-Err.refusal c.args.count c.loop-i.i _ _ _ _ c.loop-i-test.true c.loop-i.invariant.same.line c.in-Err.ensures.gives c.loop-i.invariant.rest
+    times_stops (entry g.F.Field.scalars.order) _ c.in-Err.refusal c.args.count c.loop-i.i _ _ _ (vector g.F.Field.scalars.order c.args.count c.args.lexer.now.line c.args.lexer.now.words) c.loop-i-test.true c.loop-i.invariant.same.line c.in-Err.ensures.gives c.loop-i.invariant.rest
 
 pub loop-i-preserved : goal.loop-i-preserved
 loop-i-preserved g c =
@@ -16,8 +17,8 @@ loop-i-preserved g c =
     record {
       same = search rules;
       long = search rules;
-      rest = times_goes_on (entry g.F.Field.scalars.order) _ _ _ c.args.count c.loop-i.i _ _ _ _ _ c.loop-i-test.true c.loop-i.invariant.same.line longer c.in-Ok.ensures.gives c.loop-i.invariant.rest;
+      rest = times_goes_on (entry g.F.Field.scalars.order) _ _ _ c.args.count c.loop-i.i _ _ _ _ (vector g.F.Field.scalars.order c.args.count c.args.lexer.now.line c.args.lexer.now.words) c.loop-i-test.true c.loop-i.invariant.same.line longer c.in-Ok.ensures.gives c.loop-i.invariant.rest;
     }
 
 pub returns-clause-gives : goal.returns-clause-gives
-returns-clause-gives g c = times_is_done (entry g.F.Field.scalars.order) _ c.args.count c.loop-i.i _ _ _ (omega arith) c.loop-i.invariant.rest
+returns-clause-gives g c = times_is_done (entry g.F.Field.scalars.order) _ c.args.count c.loop-i.i _ _ (vector g.F.Field.scalars.order c.args.count c.args.lexer.now.line c.args.lexer.now.words) (omega arith) c.loop-i.invariant.rest

@@ -1,8 +1,8 @@
-use Rattle.std.proofs.Common.{◌++◌, ◌<◌, ◌≤◌, [], map, ap, ap₂, sym, ◌∙◌, length, arith}
+use Rattle.std.proofs.Common.{◌++◌, ◌<◌, ◌≤◌, [], map, ap, ◌∙◌, length, arith}
 use Rattle.parity_text.specs.Spelled.{pair_words}
-use Rattle.std.proofs.lemmas.List.{get_or-map, length-map}
+use Rattle.std.proofs.lemmas.List.{length-map}
 use Rattle.line_lexer.specs.Words.{line_text}
-use Rattle.parity_text.proofs.Pieces.{each_goes_on, each_stops, each_is_done, refused}
+use Rattle.parity_text.proofs.Pieces.{each_goes_on, each_stops, each_is_done, pair_at, refused}
 use Rattle.parity_text.proofs.TextPieces.{spelled_is}
 use Rattle.parity_text.proofs.writers.put_pairs.Goals as goal
 
@@ -11,7 +11,7 @@ returns-in_err-put_pair g c =
     let xs = c.args.problem.now.lines in
     let within : c.loop-i.i < length xs = omega (arith, c.loop-i-test.true, c.len-i-end.ensures.value) in
     let lt : c.loop-i.i < length (map pair_words xs) = rw (length-map xs pair_words) within in
-    let at = ap₂ (λ u v. line_text (pair_words (u, v))) c.first.ensures.value c.second.ensures.value ∙ ap line_text (sym (get_or-map pair_words xs c.loop-i.i ([], []) [] within)) in
+    let at = pair_at xs c.loop-i.i (map g.F.Field.number c.first.result.now) (map g.F.Field.number c.second.result.now) within c.first.ensures.value c.second.ensures.value in
     refused c.from_residual.result c.args.out.now.items _ _ _ (spelled_is (map pair_words xs)) c.from_residual.ensures.0
     (each_stops line_text (map pair_words xs) c.loop-i.i [] _ _ _ _ lt at c.loop-i.invariant c.in_err-put_pair.ensures)
 
@@ -20,7 +20,7 @@ loop-i-preserved g c =
     let xs = c.args.problem.now.lines in
     let within : c.loop-i.i < length xs = omega (arith, c.loop-i-test.true, c.len-i-end.ensures.value) in
     let lt : c.loop-i.i < length (map pair_words xs) = rw (length-map xs pair_words) within in
-    let at = ap₂ (λ u v. line_text (pair_words (u, v))) c.first.ensures.value c.second.ensures.value ∙ ap line_text (sym (get_or-map pair_words xs c.loop-i.i ([], []) [] within)) in
+    let at = pair_at xs c.loop-i.i (map g.F.Field.number c.first.result.now) (map g.F.Field.number c.second.result.now) within c.first.ensures.value c.second.ensures.value in
     each_goes_on line_text (map pair_words xs) c.loop-i.i [] _ _ _ _ lt at c.loop-i.invariant c.in_ok-put_pair.ensures
 
 pub returns : goal.returns

@@ -1,9 +1,9 @@
-use Rattle.std.proofs.Common.{◌∷◌, ◌++◌, ◌<◌, ◌≤◌, [], map, ap, sym, ◌∙◌, length, arith}
+use Rattle.std.proofs.Common.{◌∷◌, ◌++◌, ◌<◌, ◌≤◌, [], map, ap, ◌∙◌, length, arith}
 use Rattle.std.specs.Prelude.{codes}
 use Rattle.std.specs.Fmt.{decimal}
-use Rattle.std.proofs.lemmas.List.{get_or-map, length-map}
+use Rattle.std.proofs.lemmas.List.{length-map}
 use Rattle.line_lexer.specs.Words.{line_text}
-use Rattle.parity_text.proofs.Pieces.{each_goes_on, each_stops, each_is_done, refused}
+use Rattle.parity_text.proofs.Pieces.{each_goes_on, each_stops, each_is_done, piece_at, refused}
 use Rattle.parity_text.proofs.TextPieces.{spelled_is}
 use Rattle.parity_text.proofs.writers.put_vectors.Goals as goal
 
@@ -12,7 +12,7 @@ returns-in_err-put_vector g c =
     let xs = c.args.kernel.now.rows in
     let within : c.loop-i.i < length xs = omega (arith, c.loop-i-test.true, c.len-i-end.ensures.value) in
     let lt : c.loop-i.i < length (map (λ v. codes "vector" ∷ map decimal v) xs) = rw (length-map xs (λ v. codes "vector" ∷ map decimal v)) within in
-    let at = ap (λ v. line_text (codes "vector" ∷ map decimal v)) c.row.ensures.value ∙ ap line_text (sym (get_or-map (λ v. codes "vector" ∷ map decimal v) xs c.loop-i.i [] [] within)) in
+    let at = piece_at line_text (λ v. codes "vector" ∷ map decimal v) xs c.loop-i.i [] [] (map g.F.Field.number c.row.result.now) within c.row.ensures.value in
     refused c.from_residual.result c.args.out.now.items _ _ _ (spelled_is (map (λ v. codes "vector" ∷ map decimal v) xs)) c.from_residual.ensures.0
     (each_stops line_text (map (λ v. codes "vector" ∷ map decimal v) xs) c.loop-i.i [] _ _ _ _ lt at c.loop-i.invariant c.in_err-put_vector.ensures)
 
@@ -21,7 +21,7 @@ loop-i-preserved g c =
     let xs = c.args.kernel.now.rows in
     let within : c.loop-i.i < length xs = omega (arith, c.loop-i-test.true, c.len-i-end.ensures.value) in
     let lt : c.loop-i.i < length (map (λ v. codes "vector" ∷ map decimal v) xs) = rw (length-map xs (λ v. codes "vector" ∷ map decimal v)) within in
-    let at = ap (λ v. line_text (codes "vector" ∷ map decimal v)) c.row.ensures.value ∙ ap line_text (sym (get_or-map (λ v. codes "vector" ∷ map decimal v) xs c.loop-i.i [] [] within)) in
+    let at = piece_at line_text (λ v. codes "vector" ∷ map decimal v) xs c.loop-i.i [] [] (map g.F.Field.number c.row.result.now) within c.row.ensures.value in
     each_goes_on line_text (map (λ v. codes "vector" ∷ map decimal v) xs) c.loop-i.i [] _ _ _ _ lt at c.loop-i.invariant c.in_ok-put_vector.ensures
 
 pub returns : goal.returns
