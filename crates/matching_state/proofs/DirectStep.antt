@@ -39,7 +39,7 @@ module _ (S : Scalars) (F : IsField S) (p : ParityProblem) (P : IsProblem S p) (
   line = tuples_at S F p
 
   -- a vector whose residue is zero is in the span of M
-  inside_of_zero : (u a : List ℕ) → IsVector S p.dimension u → IsResidue S p.dimension (vectors_at p M) u a → a ≡ zero_vector S p.dimension → InSet S p M u
+  pub inside_of_zero : (u a : List ℕ) → IsVector S p.dimension u → IsResidue S p.dimension (vectors_at p M) u a → a ≡ zero_vector S p.dimension → InSet S p M u
   inside_of_zero u a h r z =
       let y : Tuple (Element S) p.dimension = tuple S F p.dimension r.added in
       let e : sp.null ≡ sp.◌⊕◌ (tuple S F p.dimension u) y = sym (tuple-zero S F p.dimension) ∙ ap (tuple S F p.dimension) (sym z) ∙ residue_tuple S F p P M i u a h r in

@@ -1,7 +1,7 @@
 pub mod Ties
 pub mod Residues
 mod Ratios
-mod FoundSupports
+pub mod FoundSupports
 mod Findings
 pub mod Tips
 pub mod TipsOfTuples

@@ -112,19 +112,23 @@ module _ (S : Scalars) (F : IsField S) (p : ParityProblem) (P : IsProblem S p) w
   entry_in : (M cs : List ℕ) (i j : ℕ) → IsVector S (2 * length M) cs → i < length M → j < 2 → IsScalar S (slice_index cs (2 * i + j))
   entry_in M cs i j v h l = All-get_or (IsScalar S) cs (2 * i + j) 0 (let e = v.length_is in omega arith) v.entries
 
+  -- a pair that isn't zero
+  pub pair_not_zero : (M cs : List ℕ) (i : ℕ) → IsVector S (2 * length M) cs → i < length M → ¬ ((slice_index cs (2 * i) ≡ S.zero) × (slice_index cs (2 * i + 1) ≡ S.zero)) → NonZero (scalar_field S F) (pair_at S F cs i)
+  pair_not_zero M cs i v h n = go (zero_or_nonzero (scalar_field S F) (pair_at S F cs i))
+    where
+      first : IsScalar S (slice_index cs (2 * i))
+      first = subst (λ k. IsScalar S (slice_index cs k)) (omega arith) (entry_in M cs i 0 v h (omega arith))
+
+      go : IsZero (scalar_field S F) (pair_at S F cs i) ⊎ NonZero (scalar_field S F) (pair_at S F cs i) → NonZero (scalar_field S F) (pair_at S F cs i)
+      go (inl z) = absurd (n (number_zero _ first z.0, number_zero _ (entry_in M cs i 1 v h (omega arith)) z.1))
+      go (inr k) = k
+
   pub component_in_support : (M cs : List ℕ) (m : ℕ) → IsVector S (2 * length M) cs → HasComponent S M cs m → InSupport (scalar_field S F) m (pairs S F cs) M
   component_in_support M cs m v h = (
     pair_at S F cs h.index,
     subst (λ l. At l (pair_at S F cs h.index) M (pairs S F cs)) h.line (at_pairs S F M cs h.index v.length_is h.within),
-    go (zero_or_nonzero (scalar_field S F) (pair_at S F cs h.index)),
+    pair_not_zero M cs h.index v h.within h.not_zero,
   )
-    where
-      first : IsScalar S (slice_index cs (2 * h.index))
-      first = subst (λ k. IsScalar S (slice_index cs k)) (omega arith) (entry_in M cs h.index 0 v h.within (omega arith))
-
-      go : IsZero (scalar_field S F) (pair_at S F cs h.index) ⊎ NonZero (scalar_field S F) (pair_at S F cs h.index) → NonZero (scalar_field S F) (pair_at S F cs h.index)
-      go (inl z) = absurd (h.not_zero (number_zero _ first z.0, number_zero _ (entry_in M cs h.index 1 v h.within (omega arith)) z.1))
-      go (inr n) = n
 
   pub component_of_support : (M cs : List ℕ) (m : ℕ) → IsVector S (2 * length M) cs → InSupport (scalar_field S F) m (pairs S F cs) M → HasComponent S M cs m
   component_of_support M cs m v h = let r = at_index S F M cs m h.0 v.length_is h.1 in record {

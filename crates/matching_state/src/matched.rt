@@ -96,7 +96,7 @@ impl<'a, F: Field> Matched<'a, F> {
     }
 
     /// The residue of `v` modulo the span of M's vectors.
-    pub(crate) fn residue(&self, v: &[F]) -> Result<Row<F>, AllocError>
+    pub fn residue(&self, v: &[F]) -> Result<Row<F>, AllocError>
         requires { length v.now ≡ self.now.problem.dimension }
         ensures { IfOk result (IsResidue F.scalars self.now.problem.dimension (vectors_at self.now.problem self.now.set) (map F.number v.now)) }
     {

@@ -5,7 +5,7 @@ use Rattle.std.specs.Prelude.{sum_by}
 use Rattle.std.specs.Cmp.Derive.{one_truth}
 use Rattle.std.proofs.lemmas.List.Elements.{All-cons, All-nil}
 use Rattle.std.proofs.lemmas.List.Sums.{sum_by-cons}
-use Rattle.optimal_answers.proofs.InOrder.{in_in_order, in_order, in_order-increases, in_order-within, in_order_in}
+use Rattle.parity_theory.proofs.InOrder.{in_in_order, in_order, in_order-increases, in_order-within, in_order_in}
 use Rattle.parity_lines.proofs.EasyHalf.{any-has}
 use Rattle.parity_lines.specs.Certificates.{parts_with}
 use Rattle.parity_lines.specs.LineSets.{IsLineSet}

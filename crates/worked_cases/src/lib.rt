@@ -10,6 +10,8 @@ mod families;
 #[cfg(test)]
 mod fields;
 #[cfg(test)]
+mod overlaps;
+#[cfg(test)]
 mod places;
 #[cfg(test)]
 mod reading;

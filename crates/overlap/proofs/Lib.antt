@@ -1,0 +1,9 @@
+pub mod Prefixes
+pub mod KeptPairs
+pub mod KeptTies
+pub mod Combined
+pub mod Multiples
+pub mod OverlapTies
+pub mod PointsOfTips
+pub mod Raised
+pub mod CandidateTies

@@ -1,0 +1,31 @@
+use Rattle.std.proofs.Common.{◌≡◌, ◌+◌, List, ℕ, [], ◌∷◌, ◌++◌, map, length, sym, ap, ◌∙◌, subst, arith}
+use Rattle.std.proofs.lemmas.List.{length-map, map-append}
+use Rattle.std.proofs.lemmas.Result.{IfOk-weaker}
+use Rattle.overlap.proofs.KeptPairs.{AreKeptBelow, kept_more, kept_all}
+use Rattle.overlap.specs.Pairs.{AreKept}
+use Rattle.overlap.proofs.point.kept_at_ratio.Goals as goal
+
+pub loop-i-preserved : goal.loop-i-preserved
+loop-i-preserved g c =
+    let S = g.F.Field.scalars in
+    let f = g.F.Field.number in
+    let ks = c.loop-i.kept.items in
+    let a = c.pair_at_ratio-a.result.0 in
+    let b = c.pair_at_ratio-a.result.1 in
+    let is : map f c.push-in-loop-i.new.self.items ≡ (map f ks ++ f a ∷ []) ++ f b ∷ [] =
+    ap (map f) (c.in_ok-push-2.ensures.items ∙ ap (λ xs. xs ++ b ∷ []) c.in_ok-push.ensures.items)
+    ∙ map-append f (ks ++ a ∷ []) (b ∷ []) ∙ ap (λ xs. xs ++ f b ∷ []) (map-append f ks (a ∷ [])) in
+    subst (AreKeptBelow S (f c.args.factor) (map f c.args.first.now) (map f c.args.second.now) (c.loop-i.i + 1)) (sym is)
+    (kept_more S (f c.args.factor) (map f c.args.first.now) (map f c.args.second.now) c.loop-i.i (map f ks) (f a) (f b) c.loop-i.invariant
+    c.pair_at_ratio-a.ensures)
+
+pub returns : goal.returns
+returns g c =
+    let S = g.F.Field.scalars in
+    let f = g.F.Field.number in
+    let cs : List ℕ = map f c.args.first.now in
+    let ds : List ℕ = map f c.args.second.now in
+    let e : length cs ≡ length c.args.first.now = length-map c.args.first.now f in
+    IfOk-weaker c.copy_of.result _ _
+    (λ row is. subst (AreKept S (f c.args.factor) cs ds) (sym (is ∙ ap (map f) c.deref.ensures.value))
+    (kept_all S (f c.args.factor) cs ds c.loop-i.i (map f c.loop-i.kept.items) (omega arith) c.loop-i.invariant)) c.copy_of.ensures

@@ -1,0 +1,14 @@
+use Rattle.std.proofs.Common.{◌∙◌, subst}
+use Rattle.matching_state.specs.Places.{IsPlace}
+use Rattle.matching_state.proofs.Ties.{in_line_vector}
+use Rattle.parity_lines.specs.Problems.{IsProblem}
+use Rattle.overlap.proofs.pointed.tip_coordinates.Goals as goal
+
+pub coordinates-requires : goal.coordinates-requires
+coordinates-requires g c =
+    let S = g.F.Field.scalars in
+    let p = c.args.state.now.problem in
+    let P = subst (IsProblem S) c.problem.ensures c.len-lines.ensures.problem in
+    let place = subst (IsPlace S p c.args.state.now.set c.args.line) c.in-Exposed.is c.in_ok-tip.ensures in
+    let tip = place.2 in
+    c.as_slice.ensures.len ∙ (in_line_vector S g.met.F.Field.lawful p P c.args.line c.in-Exposed.tip c.requires.within tip.1.in_line).length_is

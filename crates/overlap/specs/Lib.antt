@@ -1,0 +1,4 @@
+pub mod Pairs
+pub mod Points
+pub mod PointedOverlaps
+pub mod Candidates
