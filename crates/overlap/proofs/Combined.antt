@@ -78,7 +78,7 @@ module _ (S : Scalars) (F : IsField S) (p : ParityProblem) (P : IsProblem S p) (
   unfolding vectors_at
   vectors_more = ap (vectors_at p) (take_more M i 0 h) ∙ vectors_at-append p (take i M) (m ∷ [])
 
-  pub line_more : vector_sum S (vector_sum S before (multiple S a (line_at p m).0)) (multiple S b (line_at p m).1) ≡
+  line_more : vector_sum S (vector_sum S before (multiple S a (line_at p m).0)) (multiple S b (line_at p m).1) ≡
       combination S d (take (2 * (i + 1)) cs) (vectors_at p (take (i + 1) M))
   line_more = vector_sum_assoc S F d before (multiple S a (line_at p m).0) (multiple S b (line_at p m).1) before-vector first_part second_part
       ∙ ap (vector_sum S before) (sym two)
@@ -90,3 +90,12 @@ module _ (S : Scalars) (F : IsField S) (p : ParityProblem) (P : IsProblem S p) (
       (All-cons (IsScalar S) a (b ∷ []) a_in (All-cons (IsScalar S) b [] b_in (All-nil (IsScalar S)))) front
       (All-cons (IsVector S d) (line_at p m).0 ((line_at p m).1 ∷ []) line.0 (All-cons (IsVector S d) (line_at p m).1 [] line.1 (All-nil (IsVector S d)))))
       ∙ ap₂ (combination S d) (sym (take_two cs i (let l = c.length_is in omega arith))) (sym vectors_more)
+
+  -- the sums that the loop makes
+  pub half_sum : (sum half u : List ℕ) (x : ℕ) → sum ≡ before → x ≡ a → u ≡ (line_at p m).0 → half ≡ vector_sum S sum (multiple S x u) →
+      half ≡ vector_sum S before (multiple S a (line_at p m).0)
+  half_sum sum half u x e q r k = k ∙ ap₂ (vector_sum S) e (ap₂ (multiple S) q r)
+
+  pub whole_sum : (half whole v : List ℕ) (y : ℕ) → half ≡ vector_sum S before (multiple S a (line_at p m).0) → y ≡ b → v ≡ (line_at p m).1 →
+      whole ≡ vector_sum S half (multiple S y v) → whole ≡ combination S d (take (2 * (i + 1)) cs) (vectors_at p (take (i + 1) M))
+  whole_sum half whole v y e q r k = k ∙ ap₂ (vector_sum S) e (ap₂ (multiple S) q r) ∙ line_more

@@ -1,7 +1,7 @@
 -- Pairs that are kept at a ratio, pushed one after the other; the ratio of two pairs.
 use Rattle.std.proofs.Common.{◌≡◌, ℕ, ◌+◌, ◌*◌, ◌/◌, ◌<◌, List, [], ◌∷◌, ◌++◌, length, get_or, map, refl, sym, ap, ◌∙◌, subst, arith, length-append, below_more}
 use Rattle.std.proofs.Math.Seq.{get_or-append_seam}
-use Rattle.std.proofs.lemmas.List.{get_or_append_left, get_or-map}
+use Rattle.std.proofs.lemmas.List.{get_or_append_left, get_or-map, map-append}
 use Rattle.linear_algebra.specs.Scalars.{Scalars, IsScalar, IsField}
 use Rattle.matching_state.proofs.Products.{entry_read}
 use Rattle.overlap.specs.Pairs.{IsKeptAt, AreKept}
@@ -16,7 +16,7 @@ module _ (S : Scalars) (c : ℕ) (cs ds : List ℕ) where
   kept_none = record { length_is = refl; each = λ k h. absurd (omega arith) }
 
   -- one more
-  pub kept_more : (i : ℕ) (ks : List ℕ) (a b : ℕ) → AreKeptBelow S c cs ds i ks → IsKeptAt S c cs ds i a b →
+  kept_more : (i : ℕ) (ks : List ℕ) (a b : ℕ) → AreKeptBelow S c cs ds i ks → IsKeptAt S c cs ds i a b →
       AreKeptBelow S c cs ds (i + 1) ((ks ++ a ∷ []) ++ b ∷ [])
   kept_more i ks a b h k = record {
     length_is = let l = h.length_is in let e = length-append (ks ++ a ∷ []) (b ∷ []) in let e' = length-append ks (a ∷ []) in omega arith;
@@ -38,6 +38,14 @@ module _ (S : Scalars) (c : ℕ) (cs ds : List ℕ) where
       there : get_or ((ks ++ a ∷ []) ++ b ∷ []) (2 * i + 1) 0 ≡ b
       there = ap (λ n. get_or ((ks ++ a ∷ []) ++ b ∷ []) n 0) (let e = length-append ks (a ∷ []) in let l = h.length_is in omega arith)
           ∙ get_or-append_seam (ks ++ a ∷ []) b [] 0
+
+  -- by values that are pushed
+  pub kept_pushed : {X : Type 0} (f : X → ℕ) (i : ℕ) (ks half all : List X) (a b : X) → half ≡ ks ++ a ∷ [] → all ≡ half ++ b ∷ [] →
+      AreKeptBelow S c cs ds i (map f ks) → IsKeptAt S c cs ds i (f a) (f b) → AreKeptBelow S c cs ds (i + 1) (map f all)
+  kept_pushed f i ks half all a b e e' h k =
+      let first : map f half ≡ map f ks ++ f a ∷ [] = ap (map f) e ∙ map-append f ks (a ∷ []) in
+      let is : map f all ≡ (map f ks ++ f a ∷ []) ++ f b ∷ [] = ap (map f) e' ∙ map-append f half (b ∷ []) ∙ ap (λ xs. xs ++ f b ∷ []) first in
+      subst (AreKeptBelow S c cs ds (i + 1)) (sym is) (kept_more i (map f ks) (f a) (f b) h k)
 
   -- all pairs
   pub kept_all : (i : ℕ) (ks : List ℕ) → i ≡ length cs / 2 → AreKeptBelow S c cs ds i ks → AreKept S c cs ds ks

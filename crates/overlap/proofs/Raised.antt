@@ -1,5 +1,5 @@
 -- A set that misses the point of an overlap never settles at the lines of the overlap.
-use Rattle.std.proofs.Common.{◌≡◌, ℕ, ◌<◌, ◌⊎◌, inl, inr, List, [], ◌∷◌, All, length, subst, sym}
+use Rattle.std.proofs.Common.{◌≡◌, ℕ, ◌<◌, ◌⊎◌, inl, inr, List, [], ◌∷◌, All, length, subst, sym, ◌∙◌}
 use Rattle.std.specs.Prelude.{◌↔◌}
 use Rattle.std.specs.List.{Contains}
 use Rattle.std.proofs.lemmas.List.Elements.{All-nil, All-cons}
@@ -11,7 +11,7 @@ use Rattle.linear_algebra.specs.Scalars.{Scalars, IsField}
 use Rattle.linear_algebra.specs.Vectors.{IsVector, AreVectors}
 use Rattle.linear_algebra.proofs.Coordinates.{tuple, space}
 use Rattle.linear_algebra.proofs.Elements.{Element, scalar_field}
-use Rattle.exchanges.specs.Exchanges.{IsSettled}
+use Rattle.exchanges.specs.Exchanges.{IsSettled, StillMisses}
 use Rattle.exchanges.proofs.SettledSets.{settled_tuples}
 use Rattle.matching_state.specs.Missing.{Misses}
 use Rattle.matching_state.specs.Overlaps.{IsOverlap}
@@ -27,6 +27,14 @@ use Rattle.parity_theory.proofs.OverlapPoints.{IsSpannedByDependent}
 use Rattle.parity_theory.proofs.Overlaps.{Overlap, overlap_line_independent}
 use Rattle.parity_theory.proofs.Positions.{within_lines}
 use Rattle.parity_theory.proofs.Raising.{raise_never_settles}
+
+-- T has the lines of M, and e and h
+abbrev pub HasLines : List ℕ → List ℕ → ℕ → ℕ → Type 0
+HasLines T M e h = (l : ℕ) → Contains T l ↔ (Contains M l ⊎ ((l ≡ e) ⊎ (l ≡ h)))
+
+pub lines_named : (T M L : List ℕ) (e h n k : ℕ) → L ≡ M → n ≡ e → k ≡ h → HasLines T L n k → HasLines T M e h
+lines_named T M L e h n k a b c t = subst (λ (N : List ℕ). HasLines T N e h) a
+    (subst (λ (m : ℕ). HasLines T L m h) b (subst (λ (m : ℕ). HasLines T L n m) c t))
 
 module _ (S : Scalars) (F : IsField S) (p : ParityProblem) (P : IsProblem S p) (M : List ℕ) (i : IsIndependentSet S p M) (e h : ℕ)
     (in_e : e < length p.lines) (in_h : h < length p.lines) (v : IsOverlap S p M e h) (point : List ℕ) (x : IsPoint S p M e h point) where
@@ -60,7 +68,7 @@ module _ (S : Scalars) (F : IsField S) (p : ParityProblem) (P : IsProblem S p) (
       (λ j. n (independent_of_in_order sp line k Y below d (independent_lines S F p P N within j)))))
 
   -- T has the lines of the overlap, and N is as long as M
-  module _ (T : List ℕ) (t : (l : ℕ) → Contains T l ↔ (Contains M l ⊎ ((l ≡ e) ⊎ (l ≡ h)))) where
+  module _ (T : List ℕ) (t : HasLines T M e h) where
     among : (l : ℕ) → In l T → In l (e ∷ h ∷ M)
     among l j = elim ((t l).0 (contains-In T l j)) as (λ _. In l (e ∷ h ∷ M)) [
       | inl c ↦ inr (inr (In-contains M l c))
@@ -75,8 +83,7 @@ module _ (S : Scalars) (F : IsField S) (p : ParityProblem) (P : IsProblem S p) (
     pub target_within : All (λ m. m < length p.lines) T
     target_within = all-In (λ m. m < length p.lines) T (λ l j. lines_below l (among l j))
 
-    pub never_settles : (N : List ℕ) → IsIndependentSet S p N → length N ≡ length M → Misses S p N (point ∷ []) →
-        ¬ (IsSettled S p (point ∷ []) T N)
+    never_settles : (N : List ℕ) → IsIndependentSet S p N → length N ≡ length M → Misses S p N (point ∷ []) → ¬ (IsSettled S p (point ∷ []) T N)
     never_settles N j len m s =
         let k : AreVectors S p.dimension (point ∷ []) =
         All-cons (IsVector S p.dimension) point [] x.vector (All-nil (IsVector S p.dimension)) in
@@ -84,3 +91,13 @@ module _ (S : Scalars) (F : IsField S) (p : ParityProblem) (P : IsProblem S p) (
         (misses_to S F p P N (point ∷ []) j.line_set.within k m)
         (settled_tuples S F p P N j (point ∷ []) k m T target_within s
         (λ l q. overlap_line_independent sp line M e h overlap l (among l q)))
+
+    -- nor does one that is reached from it, in the words of a walk
+    pub walk_never_settles : (K N : List ℕ) (keep : List (List ℕ)) (q : ParityProblem) → q ≡ p → keep ≡ point ∷ [] → length K ≡ length M →
+        StillMisses S q keep K N → ¬ (IsSettled S q keep T N)
+    walk_never_settles K N keep q e w len k s =
+        let kept : StillMisses S p (point ∷ []) K N =
+        subst (λ (vs : List (List ℕ)). StillMisses S p vs K N) w (subst (λ (r : ParityProblem). StillMisses S r keep K N) e k) in
+        let settled : IsSettled S p (point ∷ []) T N =
+        subst (λ (vs : List (List ℕ)). IsSettled S p vs T N) w (subst (λ (r : ParityProblem). IsSettled S r keep T N) e s) in
+        never_settles N kept.independent (kept.as_long ∙ len) kept.missed settled

@@ -1,23 +1,16 @@
-use Rattle.std.proofs.Common.{◌≡◌, ◌+◌, List, ℕ, [], ◌∷◌, ◌++◌, map, length, sym, ap, ◌∙◌, subst, arith}
-use Rattle.std.proofs.lemmas.List.{length-map, map-append}
+use Rattle.std.proofs.Common.{◌≡◌, ℕ, List, map, length, sym, ap, ◌∙◌, subst, arith, ◌/◌}
+use Rattle.std.proofs.lemmas.List.{length-map}
 use Rattle.std.proofs.lemmas.Result.{IfOk-weaker}
-use Rattle.overlap.proofs.KeptPairs.{AreKeptBelow, kept_more, kept_all}
+use Rattle.overlap.proofs.KeptPairs.{kept_pushed, kept_all}
 use Rattle.overlap.specs.Pairs.{AreKept}
 use Rattle.overlap.proofs.point.kept_at_ratio.Goals as goal
 
 pub loop-i-preserved : goal.loop-i-preserved
 loop-i-preserved g c =
-    let S = g.F.Field.scalars in
     let f = g.F.Field.number in
-    let ks = c.loop-i.kept.items in
-    let a = c.pair_at_ratio-a.result.0 in
-    let b = c.pair_at_ratio-a.result.1 in
-    let is : map f c.push-in-loop-i.new.self.items ≡ (map f ks ++ f a ∷ []) ++ f b ∷ [] =
-    ap (map f) (c.in_ok-push-2.ensures.items ∙ ap (λ xs. xs ++ b ∷ []) c.in_ok-push.ensures.items)
-    ∙ map-append f (ks ++ a ∷ []) (b ∷ []) ∙ ap (λ xs. xs ++ f b ∷ []) (map-append f ks (a ∷ [])) in
-    subst (AreKeptBelow S (f c.args.factor) (map f c.args.first.now) (map f c.args.second.now) (c.loop-i.i + 1)) (sym is)
-    (kept_more S (f c.args.factor) (map f c.args.first.now) (map f c.args.second.now) c.loop-i.i (map f ks) (f a) (f b) c.loop-i.invariant
-    c.pair_at_ratio-a.ensures)
+    kept_pushed g.F.Field.scalars (f c.args.factor) (map f c.args.first.now) (map f c.args.second.now) f c.loop-i.i c.loop-i.kept.items
+    c.push.new.self.items c.push-in-loop-i.new.self.items c.pair_at_ratio-a.result.0 c.pair_at_ratio-a.result.1 c.in_ok-push.ensures.items
+    c.in_ok-push-2.ensures.items c.loop-i.invariant c.pair_at_ratio-a.ensures
 
 pub returns : goal.returns
 returns g c =
