@@ -6,7 +6,7 @@
 #[cfg(test)]
 mod bases;
 #[cfg(test)]
-mod families;
+mod common_vectors;
 #[cfg(test)]
 mod fields;
 #[cfg(test)]
