@@ -1,5 +1,7 @@
 //! Places of lines over an independent set, coordinates, and steps.
 
+ghost use Rattle.std.specs.Prelude.{◌≡◌, IfOk};
+
 use crate::reading::{choice, problem, shown, shown_set};
 use field_core::Field;
 use matching_state::{Matched, Place, Start};
@@ -15,7 +17,9 @@ pub fn ready<'a, F: Field>(
     alloc: Global,
     problem: &'a Problem<F>,
     text: &str,
-) -> Result<Matched<'a, F>, AllocError> {
+) -> Result<Matched<'a, F>, AllocError>
+    ensures { IfOk result (λ state. state.problem ≡ problem.now) }
+{
     match Matched::start(alloc, problem, &choice(rt, alloc, problem, text))? {
         Start::Ready(state) => Ok(state),
         Start::Relation(_) => panic!(rt; "the set is independent"),
