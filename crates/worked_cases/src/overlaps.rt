@@ -31,17 +31,21 @@ fn overlap<'a, F: Field>(
     Ok(again)
 }
 
-/// The longer set that the set of a state, which misses the point, leads to.
+/// The longer set that a chosen one, which misses the point, leads to.
 fn raised<F: Field>(
     rt: &impl Abort,
     overlap: &Overlap<'_, F>,
-    state: &Matched<'_, F>,
+    text: &str,
 ) -> Result<String, AllocError> {
-    let None = state.coordinates(overlap.point())? else {
-        panic!(rt; "the point is missed");
-    };
-    assert_eq!(rt; state.set().len(), overlap.set().len());
-    shown_set(state.alloc(), &raise(overlap, state.set())?)
+    let (problem, first) = (overlap.problem(), overlap.set());
+    let _lines = problem.len();
+    let state = ready(rt, overlap.alloc(), problem, text)?;
+    let set = state.set();
+    assert_eq!(rt; set.len(), first.len());
+    match state.coordinates(overlap.point())? {
+        Some(_) => panic!(rt; "the point is missed"),
+        None => shown_set(state.alloc(), &raise(overlap, set)?),
+    }
 }
 
 /// A path of seven vertices with a branch: the edges ab, bc, cd, de, ef and gb.
@@ -58,8 +62,7 @@ fn branch_overlaps_at_a_vertex(rt: HostRuntime) -> Result<(), Fail> {
     let branch = problem::<F2>(&rt, alloc, BRANCH);
     let state = ready(&rt, alloc, &branch, SECOND_AND_FOURTH)?;
     let found = overlap(&rt, &state, "1 6", "0 1 0 0 0 0 0")?;
-    let other = ready(&rt, alloc, &branch, THIRD_AND_FIFTH)?;
-    let longer = raised(&rt, &found, &other)?;
+    let longer = raised(&rt, &found, THIRD_AND_FIFTH)?;
     assert!(rt; longer.as_str() == "1 3 5" || longer.as_str() == "3 5 6");
     Ok(())
 }
