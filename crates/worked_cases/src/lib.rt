@@ -6,11 +6,7 @@
 #[cfg(test)]
 mod bases;
 #[cfg(test)]
-mod common_vectors;
-#[cfg(test)]
 mod fields;
-#[cfg(test)]
-mod overlaps;
 #[cfg(test)]
 mod places;
 #[cfg(test)]
@@ -23,5 +19,3 @@ mod sets;
 mod subspaces;
 #[cfg(test)]
 mod verdicts;
-#[cfg(test)]
-mod walks;
