@@ -1,11 +1,13 @@
 -- What is told of a set of lines that may be one step from a longer one, and the lines of words that tell it.
-use Rattle.std.specs.Prelude.{ℕ, List, [], ◌∷◌, map, codes, Bool, true, false, Option, None, Some}
+use Rattle.std.specs.Prelude.{ℕ, List, [], ◌∷◌, map, codes, Option, None, Some}
 use Rattle.std.specs.Fmt.{decimal}
 use Rattle.linear_algebra.specs.Scalars.{Scalars}
 use Rattle.matching_state.specs.Steps.{TellsDirectStep}
 use Rattle.parity_lines.specs.Independence.{IsRelation}
 use Rattle.parity_lines.specs.LineSets.{IsIndependentSet}
 use Rattle.parity_lines.specs.Problems.{ParityProblem, vectors_at}
+use Rattle.parity_program.specs.declared.status.Status.{Status}
+use Rattle.parity_program.specs.declared.status.Status.TheVariants.{Done, No}
 use Rattle.parity_text.specs.Spelled.{choice_lines}
 
 -- a longer set, none, or a relation of the set's vectors
@@ -31,7 +33,8 @@ improvement_lines (larger N) = choice_lines N
 improvement_lines none = (codes "none" ∷ []) ∷ []
 improvement_lines (dependent cs) = (codes "no" ∷ codes "dependent" ∷ []) ∷ (codes "relation" ∷ map decimal cs) ∷ []
 
-abbrev pub is_dependent : Improvement → Bool
-is_dependent (larger N) = false
-is_dependent none = false
-is_dependent (dependent cs) = true
+-- the status that the reply ends with
+abbrev pub improvement_status : Improvement → Status
+improvement_status (larger N) = Done
+improvement_status none = Done
+improvement_status (dependent cs) = No

@@ -1,82 +1,84 @@
 -- What a run says by its status.
-use Rattle.std.specs.Prelude.{◌≡◌, ◌≢◌, ℕ, ◌+◌, ◌≤◌, ◌⊎◌, List, Bool, true, false, Option, None, Some, IfSome, Ok, Err}
+use Rattle.std.specs.Prelude.{◌≡◌, ◌≢◌, ℕ, ◌+◌, ◌≤◌, ◌⊎◌, List, true, Option, None, Some, Ok, Err}
 use Rattle.std.specs.Io.KnownBytes.{Appends, IsAtEnd, Keeps}
 use Rattle.line_lexer.specs.declared.refusal.Counted.{Counted}
 use Rattle.line_lexer.specs.declared.refusal.Counted.TheVariants as counted
-use Rattle.line_lexer.specs.declared.refusal.TextRefusal.TheVariants as refusal
+use Rattle.parity_program.specs.Commands.{reads_source}
+use Rattle.parity_program.specs.Inputs.{Input, reading, told_to, most_bytes}
+use Rattle.parity_program.specs.Replies.{ReplyText, IsReply}
 use Rattle.parity_program.specs.declared.command.Command.{Command}
 use Rattle.parity_program.specs.declared.status.Status.{Status}
-use Rattle.parity_program.specs.declared.status.Status.TheVariants.{Done, No, Usage, BadText, Limit, NotConnected, ReadFault, WriteFault, OutOfMemory}
-use Rattle.parity_program.specs.Replies.{Input, reading, ReplyText, IsReply}
+use Rattle.parity_program.specs.declared.status.Status.TheVariants.{Done, No, Usage, Limit, ReadFault, WriteFault, OutOfMemory}
 use Rattle.text_io.specs.Counts.{Rose, RoseByMore, last_count}
 use Rattle.text_io.specs.Told.{AppendsProperPrefix}
 
--- the reply to the bytes, where they are told
+-- the bytes that are told are so, or, where none are told, some bytes are
+abbrev pub OfTold : (List ℕ → Type 0) → Option (List ℕ) → Type 0
+OfTold IsSo (Some bytes) = IsSo bytes
+OfTold IsSo None = (bytes : List ℕ) × IsSo bytes
+
+-- the reply to what the bytes mean
+abbrev pub RepliesToBytes : Command → ReplyText → List ℕ → Type 0
+RepliesToBytes command reply bytes = (x : Input) × (reading command bytes ≡ Ok x) × IsReply x reply
+
+-- the reply to what a command is told
 abbrev pub Replies : Command → Option (List ℕ) → ReplyText → Type 0
-Replies command input reply = IfSome input (λ bytes. (x : Input) × (reading command bytes ≡ Ok x) × IsReply x reply)
+Replies command left reply = OfTold (RepliesToBytes command reply) (told_to command left)
 
--- The whole reply was written, and whether it says no.
-abbrev pub Answered : Command → Option (List ℕ) → Option (List ℕ) → Option (List ℕ) → Bool → Type 0
-Answered command input old new negative = (reply : ReplyText) × Replies command input reply × (reply.negative ≡ negative) × Appends old new reply.text
+-- The whole reply was written, and it ends with this status.
+abbrev pub Answered : Command → Option (List ℕ) → Option (List ℕ) → Option (List ℕ) → Status → Type 0
+Answered command left old new status = (reply : ReplyText) × Replies command left reply × (reply.status ≡ status) × Appends old new reply.text
 
--- By the command, the bytes that the source told, and what the sink had and has written.
+-- Why there is no reply: the source that the command reads failed, there was no memory, or what it is told is refused with just this status.
+abbrev pub Refuses : Command → Option (List ℕ) → Status → Type 0
+Refuses command left ReadFault = reads_source command ≡ true
+Refuses command left OutOfMemory = Unit {0}
+Refuses command left status = OfTold (λ bytes. reading command bytes ≡ Err status) (told_to command left)
+
+-- By the command, the bytes that the source had left, and what the sink had and has written.
 abbrev pub Outcome : Option Command → Option (List ℕ) → Option (List ℕ) → Option (List ℕ) → Status → Type 0
-Outcome None input old new status = (status ≡ Usage) × Keeps old new
-Outcome (Some command) input old new Done = Answered command input old new false
-Outcome (Some command) input old new No = Answered command input old new true
-Outcome (Some command) input old new Usage = ⊥
-Outcome (Some command) input old new (BadText line kind) = IfSome input (λ bytes. reading command bytes ≡ Err (refusal.Bad line kind)) × Keeps old new
-Outcome (Some command) input old new (Limit what found) = IfSome input (λ bytes. reading command bytes ≡ Err (refusal.Limit what found)) × Keeps old new
-Outcome (Some command) input old new (NotConnected vertex) = ⊥
-Outcome (Some command) input old new ReadFault = Keeps old new
-Outcome (Some command) input old new WriteFault = (reply : ReplyText) × Replies command input reply × AppendsProperPrefix old new reply.text
-Outcome (Some command) input old new OutOfMemory = Keeps old new
+Outcome None left old new status = (status ≡ Usage) × Keeps old new
+Outcome (Some command) left old new Done = Answered command left old new Done
+Outcome (Some command) left old new No = Answered command left old new No
+Outcome (Some command) left old new Usage = ⊥
+Outcome (Some command) left old new WriteFault = (reply : ReplyText) × Replies command left reply × AppendsProperPrefix old new reply.text
+Outcome (Some command) left old new status = Refuses command left status × Keeps old new
 
 -- ReadFault only where the source's count of faults rose or stands at its last value; any other status leaves it.
 abbrev pub HasReadCause : ℕ → ℕ → Status → Type 0
 HasReadCause before now ReadFault = Rose before now
-HasReadCause before now Done = now ≡ before
-HasReadCause before now No = now ≡ before
-HasReadCause before now Usage = now ≡ before
-HasReadCause before now (BadText line kind) = now ≡ before
-HasReadCause before now (Limit what found) = now ≡ before
-HasReadCause before now (NotConnected vertex) = now ≡ before
-HasReadCause before now WriteFault = now ≡ before
-HasReadCause before now OutOfMemory = now ≡ before
+HasReadCause before now status = now ≡ before
 
 -- WriteFault only where the sink's count of faults rose or stands at its last value; any other status leaves it.
 abbrev pub HasWriteCause : ℕ → ℕ → Status → Type 0
 HasWriteCause before now WriteFault = Rose before now
-HasWriteCause before now Done = now ≡ before
-HasWriteCause before now No = now ≡ before
-HasWriteCause before now Usage = now ≡ before
-HasWriteCause before now (BadText line kind) = now ≡ before
-HasWriteCause before now (Limit what found) = now ≡ before
-HasWriteCause before now (NotConnected vertex) = now ≡ before
-HasWriteCause before now ReadFault = now ≡ before
-HasWriteCause before now OutOfMemory = now ≡ before
+HasWriteCause before now status = now ≡ before
 
--- a limit: that on bytes says that byte 4194305 was given, or that the count of bytes stands at its last value
+-- a limit: that on bytes says that one byte more was given, or that the count of bytes stands at its last value
 abbrev pub HasLimitCause : ℕ → ℕ → Counted → ℕ → Type 0
-HasLimitCause before now counted.Bytes found = (found ≡ 4194305) × RoseByMore 4194304 before now
-HasLimitCause before now what found = now ≤ before + 4194304
+HasLimitCause before now counted.Bytes found = (found ≡ most_bytes + 1) × RoseByMore most_bytes before now
+HasLimitCause before now what found = now ≤ before + most_bytes
 
--- by the count of bytes: more than 4194304 were given exactly where that is the status
+-- by the count of bytes: more than an input may have were given exactly where that is the status
 abbrev pub HasByteCause : ℕ → ℕ → Status → Type 0
 HasByteCause before now (Limit what found) = HasLimitCause before now what found
-HasByteCause before now status = now ≤ before + 4194304
+HasByteCause before now status = now ≤ before + most_bytes
 
 -- the count didn't rise, and isn't at its last value
 abbrev pub NoFault : ℕ → ℕ → Type 0
 NoFault before now = (now ≡ before) × (before ≢ last_count)
 
+-- no read failed; of a command that reads nothing that is not asked
+abbrev pub NoReadFault : Command → ℕ → ℕ → Type 0
+NoReadFault command before now = reads_source command ≡ true → NoFault before now
+
 -- the reply was written, or there was no memory
 abbrev pub IsAnsweredOrOutOfMemory : Status → Type 0
 IsAnsweredOrOutOfMemory status = (status ≡ Done) ⊎ ((status ≡ No) ⊎ (status ≡ OutOfMemory))
 
--- The source was read to its end where the reply was due.
-abbrev pub EndsAfterReading : Option (List ℕ) → Status → Type 0
-EndsAfterReading left Done = IsAtEnd left
-EndsAfterReading left No = IsAtEnd left
-EndsAfterReading left WriteFault = IsAtEnd left
-EndsAfterReading left status = Unit {0}
+-- Where the reply was due, nothing is left of what the command is told.
+abbrev pub EndsAfterReading : Command → Option (List ℕ) → Status → Type 0
+EndsAfterReading command left Done = IsAtEnd (told_to command left)
+EndsAfterReading command left No = IsAtEnd (told_to command left)
+EndsAfterReading command left WriteFault = IsAtEnd (told_to command left)
+EndsAfterReading command left status = Unit {0}

@@ -1,26 +1,24 @@
--- How replies of the code are seen, and what they say of the bytes.
-use Rattle.std.specs.Prelude.{◌≡◌, ℕ, ◌+◌, ◌^◌, ◌<◌, List, length, Result, Ok, Err}
+-- Words of the contracts of private functions alone: how replies of the code are seen, and what they say of what is read.
+use Rattle.std.specs.Prelude.{◌≡◌, ◌≢◌, ℕ, ◌+◌, ◌^◌, ◌<◌, ◌≤◌, ◌⊎◌, List, Option, Result, Ok, Err}
+use Rattle.std.specs.Io.KnownBytes.{Appends, IsAtEnd}
 use Rattle.cert_check.specs.declared.answers.Verdict.{Verdict}
 use Rattle.cert_check.specs.declared.answers.Verdict.TheVariants.{PartsMissing, PartsTwice}
-use Rattle.line_lexer.specs.declared.refusal.TextRefusal.{TextRefusal}
-use Rattle.line_lexer.specs.declared.refusal.TextRefusal.TheVariants as refusal
-use Rattle.line_lexer.specs.Lines.{Line}
-use Rattle.parity_lines.specs.Problems.{ParityProblem}
+use Rattle.line_lexer.specs.declared.refusal.Counted.TheVariants.{Bytes}
+use Rattle.parity_program.specs.Inputs.{Input, told_to, most_bytes}
+use Rattle.parity_program.specs.Outcome.{Replies, Refuses, HasReadCause, HasByteCause}
+use Rattle.parity_program.specs.Replies.{ReplyText, IsReply}
 use Rattle.parity_program.specs.declared.command.Command.{Command}
-use Rattle.parity_program.specs.declared.command.Command.TheVariants.{Check, Improve}
 use Rattle.parity_program.specs.declared.reply.Reply.{Reply}
-use Rattle.parity_program.specs.Replies.{Input, input_of, ReplyText, IsReply}
-use Rattle.parity_program.specs.Replies.Input.{answered, chosen}
 use Rattle.parity_program.specs.declared.status.Status.{Status}
-use Rattle.parity_program.specs.declared.status.Status.TheVariants.{BadText, Limit, OutOfMemory}
-use Rattle.parity_text.specs.Texts.{problem, answer, choice}
-use Rattle.text_forms.specs.Forms.{Form, finished}
-use Rattle.text_forms.specs.Gives.{Fails}
-use Rattle.text_forms.specs.Reading.{◌>>=◌, give}
+use Rattle.parity_program.specs.declared.status.Status.TheVariants.{Limit, ReadFault, WriteFault, OutOfMemory}
+use Rattle.text_io.specs.Counts.{Rose}
+use Rattle.text_io.specs.Told.{AppendsProperPrefix}
+use Rattle.text_io.specs.declared.reading.ReadAnswer.{ReadAnswer}
+use Rattle.text_io.specs.declared.reading.ReadAnswer.TheVariants as read
 
--- the text, and whether it says no
+-- the text, and the status that it ends with
 abbrev pub shown : Reply → ReplyText
-shown reply = record { text = reply.text.items; negative = reply.negative }
+shown reply = record { text = reply.text.items; status = reply.status }
 
 -- the position that the verdict names can be counted from 1
 abbrev pub HasSmallPosition : Verdict → Type 0
@@ -28,43 +26,37 @@ HasSmallPosition (PartsMissing m) = m + 1 < 2 ^ 64
 HasSmallPosition (PartsTwice m) = m + 1 < 2 ^ 64
 HasSmallPosition verdict = Unit {0}
 
--- behind a problem over the field of order q: an answer to it, and nothing more
-unfoldable pub answered_behind : ℕ → ParityProblem → Form Input
-answered_behind q p = do
-  a ← answer q p.dimension (length p.lines)
-  _ ← finished
-  give (answered q p a)
+-- the reply to what was meant, or the status that refuses it, unless memory ran out
+abbrev pub RepliesTo : Result Input Status → Result Reply Status → Type 0
+RepliesTo meant (Ok reply) = (x : Input) × (meant ≡ Ok x) × IsReply x (shown reply)
+RepliesTo meant (Err status) = (status ≡ OutOfMemory) ⊎ (meant ≡ Err status)
 
--- behind a problem: a choice of its lines, and nothing more
-unfoldable pub chosen_behind : ℕ → ParityProblem → Form Input
-chosen_behind q p = do
-  set ← choice (length p.lines)
-  _ ← finished
-  give (chosen q p set)
+-- it isn't the limit on all bytes
+abbrev pub IsNoByteLimit : Status → Type 0
+IsNoByteLimit (Limit what found) = what ≢ Bytes
+IsNoByteLimit status = Unit {0}
 
--- what a command reads behind a problem
-abbrev pub behind : Command → ℕ → ParityProblem → Form Input
-behind Check q p = answered_behind q p
-behind Improve q p = chosen_behind q p
+-- the status where the source's bytes can't be had
+abbrev pub status_of_read : ReadAnswer → Status
+status_of_read read.Fault = ReadFault
+status_of_read read.TooLong = Limit Bytes (most_bytes + 1)
+status_of_read read.OutOfMemory = OutOfMemory
 
--- what it reads behind the head: a problem, and what is behind it
-unfoldable pub input_over : Command → ℕ → Form Input
-input_over command q = do
-  p ← problem q
-  behind command q p
+-- by the bytes that were left, a reply or the status in place of one
+abbrev pub RepliesOrRefuses : Command → Option (List ℕ) → Result Reply Status → Type 0
+RepliesOrRefuses command left (Ok reply) = Replies command left (shown reply)
+RepliesOrRefuses command left (Err status) = Refuses command left status
 
--- the reply to the input that is read, or the first refusal
-abbrev pub RepliesOver : Result (Input × List Line) TextRefusal → Result Reply TextRefusal → Type 0
-RepliesOver read (Ok reply) = (x : Input) × (rest : List Line) × (read ≡ Ok (x, rest)) × IsReply x (shown reply)
-RepliesOver read (Err e) = Fails e read
+-- after a reply, no read failed, and no more bytes were given than an input may have; a status in its place has its causes
+abbrev pub ReadsWithCause : ℕ → ℕ → Result Reply Status → Type 0
+ReadsWithCause before now (Ok reply) = now ≡ before
+ReadsWithCause before now (Err status) = HasReadCause before now status
 
--- the reply to the bytes, or their first refusal
-abbrev pub RepliesTo : Command → List ℕ → Result Reply TextRefusal → Type 0
-RepliesTo command bytes (Ok reply) = (x : Input) × (input_of command bytes ≡ Ok x) × IsReply x (shown reply)
-RepliesTo command bytes (Err e) = Fails e (input_of command bytes)
+abbrev pub GivesWithCause : ℕ → ℕ → Result Reply Status → Type 0
+GivesWithCause before now (Ok reply) = now ≤ before + most_bytes
+GivesWithCause before now (Err status) = HasByteCause before now status
 
--- the status of a refusal
-abbrev pub status_of : TextRefusal → Status
-status_of (refusal.Bad line kind) = BadText line kind
-status_of (refusal.Limit what found) = Limit what found
-status_of refusal.OutOfMemory = OutOfMemory
+-- by the sink's bytes and faults, before and after: the reply was written, with its status, or a write failed
+abbrev pub IsWritten : Option (List ℕ) → Option (List ℕ) → ℕ → ℕ → ReplyText → Status → Type 0
+IsWritten old new before now reply status =
+    ((status ≡ reply.status) × Appends old new reply.text × (now ≡ before)) ⊎ ((status ≡ WriteFault) × AppendsProperPrefix old new reply.text × Rose before now)

@@ -3,17 +3,20 @@
 ghost use Rattle.std.specs.Prelude.{◌≡◌, IfErr, IfOk, length};
 ghost use Rattle.line_lexer.specs.Lines.{lines as text_lines};
 ghost use Rattle.parity_lines.specs.Problems.{ParityProblem};
+ghost use Rattle.parity_program.specs.Inputs.{accepted, behind};
 ghost use Rattle.parity_program.specs.Replies.{IsVerdictReply};
-ghost use Rattle.parity_program.specs.Shown.{answered_behind, RepliesOver, shown};
+ghost use Rattle.parity_program.specs.Shown.{IsNoByteLimit, RepliesTo, shown};
+ghost use Rattle.parity_program.specs.declared.command.ProblemCommand.TheVariants.{Check};
 ghost use Rattle.parity_text.specs.Shown.{answer_value};
 ghost use Rattle.parity_text.specs.Values.{IsAnswerTo};
 ghost use Rattle.small_fields.specs.ScalarsOf.{scalars_of};
-ghost use Rattle.text_forms.specs.Gives.{IsOfText};
+ghost use Rattle.text_forms.specs.Forms.{whole_text};
 
+use crate::Status;
 use crate::reply::{Reply, verdict_reply};
 use cert_check::verdict;
 use field_core::Field;
-use line_lexer::{Lexer, TextRefusal};
+use line_lexer::Lexer;
 use parity_lines::{Answer, Problem};
 use parity_text::{read_answer, read_end};
 use std::alloc::{AllocError, Global};
@@ -33,20 +36,16 @@ fn checked<F: Field>(
 }
 
 /// The reply behind the problem: to an answer, up to the end of the input.
-#[tactic(auto, unfolding(crate::specs::Shown::answered_behind))]
 pub fn check<F: Field>(
     alloc: Global,
     lexer: &mut Lexer<'_>,
     problem: &Problem<F>,
-) -> Result<Reply, TextRefusal>
+) -> Result<Reply, Status>
     requires { F.scalars ≡ scalars_of F.scalars.order }
-    ensures replies { RepliesOver (answered_behind F.scalars.order problem.now (length (text_lines lexer.old.bytes)) lexer.old.ahead) result }
-    ensures kind { IfErr result IsOfText }
+    ensures replies { RepliesTo (accepted (whole_text (behind Check F.scalars.order problem.now) (length (text_lines lexer.old.bytes)) lexer.old.ahead)) result }
+    ensures kind { IfErr result IsNoByteLimit }
 {
     let answer = read_answer(alloc, lexer, problem)?;
     read_end(lexer)?;
-    match checked(alloc, problem, &answer) {
-        Ok(reply) => Ok(reply),
-        Err(_) => Err(TextRefusal::OutOfMemory),
-    }
+    Ok(checked(alloc, problem, &answer)?)
 }

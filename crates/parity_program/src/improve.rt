@@ -2,14 +2,17 @@
 
 ghost use Rattle.std.specs.Prelude.{◌≡◌, ◌<◌, All, IfErr, IfOk, length};
 ghost use Rattle.line_lexer.specs.Lines.{lines as text_lines};
+ghost use Rattle.parity_program.specs.Inputs.{accepted, behind};
 ghost use Rattle.parity_program.specs.Replies.{IsImprovementReply};
-ghost use Rattle.parity_program.specs.Shown.{chosen_behind, RepliesOver, shown};
+ghost use Rattle.parity_program.specs.Shown.{IsNoByteLimit, RepliesTo, shown};
+ghost use Rattle.parity_program.specs.declared.command.ProblemCommand.TheVariants.{Improve};
 ghost use Rattle.small_fields.specs.ScalarsOf.{scalars_of};
-ghost use Rattle.text_forms.specs.Gives.{IsOfText};
+ghost use Rattle.text_forms.specs.Forms.{whole_text};
 
+use crate::Status;
 use crate::reply::{Reply, relation_reply, step_reply};
 use field_core::Field;
-use line_lexer::{Lexer, TextRefusal};
+use line_lexer::Lexer;
 use matching_state::{Matched, Start};
 use parity_lines::{LineSet, Problem};
 use parity_text::{read_end, read_set};
@@ -34,20 +37,16 @@ fn improved<F: Field>(
 }
 
 /// The reply behind the problem: to a choice of its lines, up to the end of the input.
-#[tactic(auto, unfolding(crate::specs::Shown::chosen_behind))]
 pub fn improve<F: Field>(
     alloc: Global,
     lexer: &mut Lexer<'_>,
     problem: &Problem<F>,
-) -> Result<Reply, TextRefusal>
+) -> Result<Reply, Status>
     requires { F.scalars ≡ scalars_of F.scalars.order }
-    ensures replies { RepliesOver (chosen_behind F.scalars.order problem.now (length (text_lines lexer.old.bytes)) lexer.old.ahead) result }
-    ensures kind { IfErr result IsOfText }
+    ensures replies { RepliesTo (accepted (whole_text (behind Improve F.scalars.order problem.now) (length (text_lines lexer.old.bytes)) lexer.old.ahead)) result }
+    ensures kind { IfErr result IsNoByteLimit }
 {
     let set = read_set(alloc, lexer, problem.len())?;
     read_end(lexer)?;
-    match improved(alloc, problem, &set) {
-        Ok(reply) => Ok(reply),
-        Err(_) => Err(TextRefusal::OutOfMemory),
-    }
+    Ok(improved(alloc, problem, &set)?)
 }

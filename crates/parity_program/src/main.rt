@@ -1,13 +1,13 @@
 //! The program: from the words and the bytes in to the status and the bytes out.
 //!
 //! [`run`] does all that the program does, and its contract states the whole promise over the bytes that the
-//! source has left and the sink has written: `Outcome` in `specs/Outcome.antt` says what each status means,
-//! `specs/Replies.antt` what an input says and what the reply to it is, `specs/StatusLines.antt` the codes and
-//! lines. `check` replies with the verdict on an answer, `improve` with a longer independent set that one step
-//! makes of a set of lines, that there is none, or a relation (`specs/Improvements.antt`). `main` only makes the
-//! real source and sink. That the reply is that to the whole input is proved in `proofs/replying` and
-//! `proofs/Files.antt`, each command in `proofs/check` and `proofs/improve`, the outcome of a run in
-//! `proofs/running` and `proofs/Outcomes.antt`.
+//! source has left and the sink has written: `specs/Commands.antt` has the words of the commands,
+//! `specs/Inputs.antt` what the bytes mean to each, `specs/Replies.antt` what the reply is,
+//! `specs/Outcome.antt` what each status says, `specs/StatusLines.antt` the codes and lines. `check` replies
+//! with the verdict on an answer, `improve` with a longer independent set that one step makes of a set of lines,
+//! that there is none, or a relation (`specs/Improvements.antt`), `generate` with the problem of a number.
+//! `main` only makes the real source and sink. `specs/Shown.antt` has what only private functions speak of, and
+//! `proofs/Refusals.antt` and `proofs/Outcomes.antt` what the proofs of a command and of a run share.
 #![tactic(auto)]
 
 ghost use Rattle.std.specs.Prelude.{◌≡◌};
@@ -16,6 +16,7 @@ ghost use Rattle.parity_program.specs.StatusLines.{code_of};
 
 mod check;
 mod command;
+mod generate;
 mod improve;
 mod reply;
 mod replying;
@@ -25,7 +26,7 @@ mod status_line;
 #[cfg(test)]
 mod tests;
 
-pub use command::Command;
+pub use command::{Command, NumberCommand, ProblemCommand};
 pub use running::run;
 pub use status::Status;
 pub use status_line::StatusLine;
@@ -36,14 +37,14 @@ use std::process::ExitCode;
 use std::{env, io};
 use text_io::{StdSink, StdSource};
 
+/// The bytes that an input may have.
+const MOST_BYTES: usize = 4_194_304;
+
 /// The words after the program's name, or the status where they can't be had: want of memory, or words that
 /// the system refuses.
 fn words_of<R: Env + AllocGlobal>(rt: &R) -> Result<Vec<String>, Status> {
     match env::args(rt) {
-        Ok(args) => match args.skip(1).collect(rt.alloc()) {
-            Ok(words) => Ok(words),
-            Err(_) => Err(Status::OutOfMemory),
-        },
+        Ok(args) => Ok(args.skip(1).collect(rt.alloc())?),
         Err(error) if error.kind() == ErrorKind::OutOfMemory => Err(Status::OutOfMemory),
         Err(_) => Err(Status::Usage),
     }

@@ -6,20 +6,21 @@ ghost use Rattle.std.specs.List.{flat_map};
 ghost use Rattle.line_lexer.specs.Words.{spelled};
 ghost use Rattle.parity_program.specs.Improvements.{improvement_lines, of_step};
 ghost use Rattle.parity_program.specs.Improvements.Improvement.{dependent};
-ghost use Rattle.parity_program.specs.Replies.{verdict_words, verdict_reply as reply_of, improvement_reply};
+ghost use Rattle.parity_program.specs.Replies.{verdict_words, verdict_status as status_after, verdict_reply as reply_of, improvement_reply};
 ghost use Rattle.parity_program.specs.Shown.{shown, HasSmallPosition};
 
+use crate::Status;
 use cert_check::Verdict;
 use field_core::{Field, Row};
 use parity_lines::LineSet;
 use parity_text::write_set;
 use std::alloc::{AllocError, Global};
 
-/// A text, and whether it says no.
+/// A text, and the status that the run ends with once it is written.
 #[derive(Drop)]
 pub struct Reply {
     pub text: Vec<u8>,
-    pub negative: bool,
+    pub status: Status,
 }
 
 /// Puts a number behind.
@@ -56,6 +57,16 @@ fn put_verdict(out: &mut Vec<u8>, verdict: Verdict) -> Result<(), AllocError>
     }
 }
 
+/// The status after the verdict.
+fn verdict_status(verdict: Verdict) -> Status
+    ensures { result ≡ status_after verdict }
+{
+    match verdict {
+        Verdict::Yes => Status::Done,
+        _ => Status::No,
+    }
+}
+
 /// The line that tells the verdict.
 pub fn verdict_reply(alloc: Global, verdict: Verdict) -> Result<Reply, AllocError>
     requires { HasSmallPosition verdict }
@@ -66,7 +77,7 @@ pub fn verdict_reply(alloc: Global, verdict: Verdict) -> Result<Reply, AllocErro
     text.push(b'\n')?;
     Ok(Reply {
         text,
-        negative: verdict != Verdict::Yes,
+        status: verdict_status(verdict),
     })
 }
 
@@ -89,7 +100,7 @@ pub fn step_reply(alloc: Global, step: Option<LineSet>) -> Result<Reply, AllocEr
     put_step(&mut text, step)?;
     Ok(Reply {
         text,
-        negative: false,
+        status: Status::Done,
     })
 }
 
@@ -114,6 +125,6 @@ pub fn relation_reply<F: Field>(alloc: Global, relation: &Row<F>) -> Result<Repl
     text.push(b'\n')?;
     Ok(Reply {
         text,
-        negative: true,
+        status: Status::No,
     })
 }

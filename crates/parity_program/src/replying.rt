@@ -1,52 +1,55 @@
-//! The reply of a command to an input.
+//! The reply of a command: to an input of bytes, and to a number.
 
-ghost use Rattle.std.specs.Prelude.{◌≡◌, ◌≤◌, Err, IfErr, length};
+ghost use Rattle.std.specs.Prelude.{◌≡◌, ◌≤◌, Err, IfErr, IfOk, length};
 ghost use Rattle.line_lexer.specs.Lines.{lines as text_lines};
 ghost use Rattle.line_lexer.specs.declared.refusal.TextRefusal.{TextRefusal};
-ghost use Rattle.parity_program.specs.Shown.{input_over, RepliesOver, RepliesTo};
-ghost use Rattle.parity_text.specs.Texts.{head};
+ghost use Rattle.parity_program.specs.Inputs.{accepted, behind, input_of, most_bytes, numbered, status_of};
+ghost use Rattle.parity_program.specs.Replies.{IsReply};
+ghost use Rattle.parity_program.specs.Shown.{IsNoByteLimit, RepliesTo, shown};
+ghost use Rattle.parity_program.specs.declared.command.Command.TheVariants.{OverProblem};
+ghost use Rattle.parity_text.specs.Texts.{head, problem};
 ghost use Rattle.small_fields.specs.FieldName.{order_of};
 ghost use Rattle.small_fields.specs.ScalarsOf.{scalars_of};
-ghost use Rattle.text_forms.specs.Forms.{of_text};
-ghost use Rattle.text_forms.specs.Gives.{IsOfText};
+ghost use Rattle.text_forms.specs.Forms.{of_text, whole_text};
+ghost use Rattle.text_forms.specs.Reading.{chain};
 
-use crate::Command;
 use crate::check::check;
+use crate::generate::generate;
 use crate::improve::improve;
 use crate::reply::Reply;
+use crate::{NumberCommand, ProblemCommand, Status};
 use field_core::Field;
-use line_lexer::{Lexer, TextRefusal};
+use line_lexer::Lexer;
 use parity_text::{read_head, read_problem};
 use small_fields::{F2, F3, F5, F251, F256, FieldName};
-use std::alloc::Global;
+use std::alloc::{AllocError, Global};
 
 /// The reply over a field, from behind the head of the text: a problem, and then what the command reads.
-#[tactic(auto, unfolding(crate::specs::Shown::input_over))]
 fn reply_over<F: Field>(
     alloc: Global,
-    command: Command,
+    command: ProblemCommand,
     lexer: &mut Lexer<'_>,
-) -> Result<Reply, TextRefusal>
+) -> Result<Reply, Status>
     requires { F.scalars ≡ scalars_of F.scalars.order }
-    ensures replies { RepliesOver (input_over command F.scalars.order (length (text_lines lexer.old.bytes)) lexer.old.ahead) result }
-    ensures kind { IfErr result IsOfText }
+    ensures replies { RepliesTo (accepted (whole_text (chain (problem F.scalars.order) (behind command F.scalars.order)) (length (text_lines lexer.old.bytes)) lexer.old.ahead)) result }
+    ensures kind { IfErr result IsNoByteLimit }
 {
     let problem = read_problem::<F>(alloc, lexer)?;
     match command {
-        Command::Check => check(alloc, lexer, &problem),
-        Command::Improve => improve(alloc, lexer, &problem),
+        ProblemCommand::Check => check(alloc, lexer, &problem),
+        ProblemCommand::Improve => improve(alloc, lexer, &problem),
     }
 }
 
 /// The same over the field of this name.
 fn reply_named(
     alloc: Global,
-    command: Command,
+    command: ProblemCommand,
     name: FieldName,
     lexer: &mut Lexer<'_>,
-) -> Result<Reply, TextRefusal>
-    ensures replies { RepliesOver (input_over command (order_of name) (length (text_lines lexer.old.bytes)) lexer.old.ahead) result }
-    ensures kind { IfErr result IsOfText }
+) -> Result<Reply, Status>
+    ensures replies { RepliesTo (accepted (whole_text (chain (problem (order_of name)) (behind command (order_of name))) (length (text_lines lexer.old.bytes)) lexer.old.ahead)) result }
+    ensures kind { IfErr result IsNoByteLimit }
 {
     match name {
         FieldName::Two => reply_over::<F2>(alloc, command, lexer),
@@ -58,17 +61,24 @@ fn reply_named(
 }
 
 /// The reply to the bytes of an input.
-pub fn reply_to(alloc: Global, command: Command, bytes: &[u8]) -> Result<Reply, TextRefusal>
-    requires { length bytes.now ≤ 4194304 }
-    ensures replies { RepliesTo command bytes.now result }
-    ensures kind { IfErr result IsOfText }
+pub fn reply_to(alloc: Global, command: ProblemCommand, bytes: &[u8]) -> Result<Reply, Status>
+    requires { length bytes.now ≤ most_bytes }
+    ensures replies { RepliesTo (input_of (OverProblem command) bytes.now) result }
+    ensures kind { IfErr result IsNoByteLimit }
 
     // The head takes no memory: where it is refused, want of memory is no answer.
-    ensures head { (e : TextRefusal) → of_text head bytes.now ≡ Err e → result ≡ Err e }
+    ensures head { (e : TextRefusal) → of_text head bytes.now ≡ Err e → result ≡ Err (status_of e) }
 {
     let mut lexer = Lexer::new(bytes);
-    match read_head(&mut lexer) {
-        Ok(name) => reply_named(alloc, command, name, &mut lexer),
-        Err(refusal) => Err(refusal),
+    let name = read_head(&mut lexer)?;
+    reply_named(alloc, command, name, &mut lexer)
+}
+
+/// The reply to a number.
+pub fn reply_to_number(alloc: Global, command: NumberCommand, n: u32) -> Result<Reply, AllocError>
+    ensures { IfOk result (λ reply. IsReply (numbered command n) (shown reply)) }
+{
+    match command {
+        NumberCommand::Generate => generate(alloc, n),
     }
 }

@@ -1,27 +1,85 @@
 //! The whole run.
 
-ghost use Rattle.std.specs.Prelude.{◌≡◌, ◌≤◌, ℕ, List, None, Some, Ok, Err, IfErr, length, ◌↔◌};
+ghost use Rattle.std.specs.Prelude.{◌≡◌, ◌≤◌, ℕ, List, Option, None, Some, Ok, OnOk, false, true, ◌↔◌};
 ghost use Rattle.std.specs.Io.KnownBytes.{IsAtEnd};
-ghost use Rattle.parity_program.specs.Commands.{command_of, words_of};
-ghost use Rattle.parity_program.specs.Outcome.{Outcome, HasReadCause, HasWriteCause, HasByteCause, NoFault, EndsAfterReading, IsAnsweredOrOutOfMemory};
-ghost use Rattle.parity_program.specs.Replies.{Input, reading};
-ghost use Rattle.parity_program.specs.Shown.{status_of};
-ghost use Rattle.text_forms.specs.Gives.{IsOfText};
+ghost use Rattle.parity_program.specs.Commands.{Named, words_of, reads_source};
+ghost use Rattle.parity_program.specs.Inputs.{Input, reading, told_to};
+ghost use Rattle.parity_program.specs.Outcome.{Outcome, HasReadCause, HasWriteCause, HasByteCause, NoFault, NoReadFault, EndsAfterReading, IsAnsweredOrOutOfMemory};
+ghost use Rattle.parity_program.specs.Shown.{shown, RepliesOrRefuses, ReadsWithCause, GivesWithCause, IsWritten};
+ghost use Rattle.parity_program.specs.declared.command.Command.{Command};
+ghost use Rattle.parity_program.specs.declared.command.Command.TheVariants.{OverProblem, OfNumber};
 
-use crate::replying::reply_to;
-use crate::{Command, Status};
-use line_lexer::{Counted, TextRefusal};
+use crate::reply::Reply;
+use crate::replying::{reply_to, reply_to_number};
+use crate::{Command, MOST_BYTES, NumberCommand, ProblemCommand, Status};
 use std::alloc::Global;
-use text_io::{ReadAnswer, Sink, Source, read_all, write_whole};
+use text_io::{Sink, Source, read_all, write_whole};
 
-/// The status of a refusal.
-fn refused(refusal: TextRefusal) -> Status
-    ensures { result ≡ status_of refusal }
+/// The reply of a command to all that the source has left.
+fn reply_to_source<I: Source>(
+    alloc: Global,
+    command: ProblemCommand,
+    input: &mut I,
+) -> Result<Reply, Status>
+    ensures replies { RepliesOrRefuses (OverProblem command) (I.left input.old) result }
+    ensures end { OnOk result (IsAtEnd (I.left input.new)) }
+    ensures read { ReadsWithCause (I.faults input.old) (I.faults input.new) result }
+    ensures long { GivesWithCause (I.given input.old) (I.given input.new) result }
 {
-    match refusal {
-        TextRefusal::Bad { line, kind } => Status::BadText { line, kind },
-        TextRefusal::Limit { what, found } => Status::Limit { what, found },
-        TextRefusal::OutOfMemory => Status::OutOfMemory,
+    let bytes = read_all(alloc, input, MOST_BYTES)?;
+    reply_to(alloc, command, &bytes)
+}
+
+/// The reply of a command to a number.
+fn reply_without_source(alloc: Global, command: NumberCommand, n: u32) -> Result<Reply, Status>
+    ensures replies { (left : Option (List ℕ)) → RepliesOrRefuses (OfNumber command n) left result }
+    ensures read { (count : ℕ) → ReadsWithCause count count result }
+    ensures long { (count : ℕ) → GivesWithCause count count result }
+{
+    Ok(reply_to_number(alloc, command, n)?)
+}
+
+/// The reply of a command, or the status in place of one.
+fn reply_of<I: Source>(alloc: Global, command: Command, input: &mut I) -> Result<Reply, Status>
+    ensures replies { RepliesOrRefuses command (I.left input.old) result }
+    ensures unread { reads_source command ≡ false → input.new ≡ input.old }
+    ensures end { OnOk result (IsAtEnd (told_to command (I.left input.new))) }
+    ensures read { ReadsWithCause (I.faults input.old) (I.faults input.new) result }
+    ensures long { GivesWithCause (I.given input.old) (I.given input.new) result }
+{
+    match command {
+        Command::OverProblem(command) => reply_to_source(alloc, command, input),
+        Command::OfNumber(command, n) => reply_without_source(alloc, command, n),
+    }
+}
+
+/// Writes the reply, and says how the run ends.
+fn tell<O: Sink>(output: &mut O, reply: &Reply) -> Status
+    ensures { IsWritten (O.written output.old) (O.written output.new) (O.faults output.old) (O.faults output.new) (shown reply.now) result }
+{
+    match write_whole(output, &reply.text) {
+        Ok(()) => reply.status,
+        Err(_) => Status::WriteFault,
+    }
+}
+
+/// Runs a command.
+fn run_command<I: Source, O: Sink>(
+    alloc: Global,
+    command: Command,
+    input: &mut I,
+    output: &mut O,
+) -> Status
+    ensures outcome { Outcome (Some command) (I.left input.old) (O.written output.old) (O.written output.new) result }
+    ensures unread { reads_source command ≡ false → input.new ≡ input.old }
+    ensures end { EndsAfterReading command (I.left input.new) result }
+    ensures read { HasReadCause (I.faults input.old) (I.faults input.new) result }
+    ensures write { HasWriteCause (O.faults output.old) (O.faults output.new) result }
+    ensures long { HasByteCause (I.given input.old) (I.given input.new) result }
+{
+    match reply_of(alloc, command, input) {
+        Ok(reply) => tell(output, &reply),
+        Err(status) => status,
     }
 }
 
@@ -31,52 +89,40 @@ fn refused(refusal: TextRefusal) -> Status
 /// and `No` the sink has received exactly the reply to the input, after `WriteFault` a proper prefix of it, and
 /// after any other status nothing. To `improve` that is an independent set that one step makes of the set in
 /// the input and that is one line longer, `none` exactly where there is no such set, and where the set is
-/// dependent a relation of its vectors. With words that are no command's, nothing is read or written.
-/// `complete` says that an accepted input is answered, faults and want of memory aside.
+/// dependent a relation of its vectors. `generate` reads nothing, and its reply is the text of a number's problem.
+/// With words that are no command's, nothing is read or written. `complete` says that an accepted input is
+/// answered, faults and want of memory aside.
 pub fn run<I: Source, O: Sink>(
     alloc: Global,
     words: &[String],
     input: &mut I,
     output: &mut O,
 ) -> Status
-    ensures outcome { Outcome (command_of (words_of words.now)) (I.left input.old) (O.written output.old) (O.written output.new) result }
-    ensures usage { (result ≡ Status.Usage) ↔ (command_of (words_of words.now) ≡ None) }
+    // What each status says, by the command of the words, of the bytes that were left and those that were written.
+    ensures outcome { (found : Option Command) → Named (words_of words.now) found
+        → Outcome found (I.left input.old) (O.written output.old) (O.written output.new) result }
+
+    // Usage is answered exactly to words of no command, and then source and sink are as they were.
+    ensures usage { (result ≡ Status.Usage) ↔ Named (words_of words.now) None }
     ensures untouched { result ≡ Status.Usage → (input.new ≡ input.old) × (output.new ≡ output.old) }
-    ensures end { EndsAfterReading (I.left input.new) result }
+
+    // A command that reads nothing leaves the source as it was. Where a reply was due, any other has read it to its end.
+    ensures unread { (command : Command) → Named (words_of words.now) (Some command) → reads_source command ≡ false → input.new ≡ input.old }
+    ensures end { (command : Command) → Named (words_of words.now) (Some command) → EndsAfterReading command (I.left input.new) result }
+
+    // A fault and the limit on bytes are answered only where the counts of source and sink tell them.
     ensures read { HasReadCause (I.faults input.old) (I.faults input.new) result }
     ensures write { HasWriteCause (O.faults output.old) (O.faults output.new) result }
     ensures long { HasByteCause (I.given input.old) (I.given input.new) result }
-    ensures complete { (command : Command) (bytes : List ℕ) (x : Input) → command_of (words_of words.now) ≡ Some command
-        → I.left input.old ≡ Some bytes → reading command bytes ≡ Ok x
-        → NoFault (I.faults input.old) (I.faults input.new) → NoFault (O.faults output.old) (O.faults output.new)
+
+    // An accepted input is answered where no read and no write failed, or there was no memory.
+    ensures complete { (command : Command) (bytes : List ℕ) (x : Input) → Named (words_of words.now) (Some command)
+        → told_to command (I.left input.old) ≡ Some bytes → reading command bytes ≡ Ok x
+        → NoReadFault command (I.faults input.old) (I.faults input.new) → NoFault (O.faults output.old) (O.faults output.new)
         → IsAnsweredOrOutOfMemory result }
 {
-    let Some(command) = Command::of(words) else {
-        return Status::Usage;
-    };
-    let bytes = match read_all(alloc, input, 4_194_304) {
-        Ok(bytes) => bytes,
-        Err(ReadAnswer::Fault) => return Status::ReadFault,
-        Err(ReadAnswer::TooLong) => {
-            return Status::Limit {
-                what: Counted::Bytes,
-                found: 4_194_305,
-            };
-        }
-        Err(ReadAnswer::OutOfMemory) => return Status::OutOfMemory,
-    };
-    let reply = match reply_to(alloc, command, &bytes) {
-        Ok(reply) => reply,
-        Err(refusal) => return refused(refusal),
-    };
-    match write_whole(output, &reply.text) {
-        Ok(()) => {
-            if reply.negative {
-                Status::No
-            } else {
-                Status::Done
-            }
-        }
-        Err(_) => Status::WriteFault,
+    match Command::of(words) {
+        Some(command) => run_command(alloc, command, input, output),
+        None => Status::Usage,
     }
 }

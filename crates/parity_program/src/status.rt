@@ -1,10 +1,15 @@
 //! How a run ends.
 
 ghost use Rattle.std.specs.Prelude.{◌≡◌, ◌≤◌, ◌+◌, length};
+ghost use Rattle.parity_program.specs.Inputs.{status_of};
+ghost use Rattle.parity_program.specs.Shown.{status_of_read};
+ghost use Rattle.parity_program.specs.declared.status.Status.TheVariants.{OutOfMemory};
 ghost use Rattle.parity_program.specs.StatusLines.{code_of, fault_name, counted_name, status_text, line_of};
 
-use crate::StatusLine;
-use line_lexer::{Counted, TextFault};
+use crate::{MOST_BYTES, StatusLine};
+use line_lexer::{Counted, TextFault, TextRefusal};
+use std::alloc::AllocError;
+use text_io::ReadAnswer;
 
 /// How a run ended.
 #[derive(Clone, Copy, Debug, Drop, PartialEq, Eq)]
@@ -27,6 +32,41 @@ pub enum Status {
     WriteFault,
     /// There was no memory.
     OutOfMemory,
+}
+
+impl From<TextRefusal> for Status {
+    ghost from_gives = { λ refusal status. status ≡ status_of refusal };
+
+    fn from(refusal: TextRefusal) -> Status {
+        match refusal {
+            TextRefusal::Bad { line, kind } => Status::BadText { line, kind },
+            TextRefusal::Limit { what, found } => Status::Limit { what, found },
+            TextRefusal::OutOfMemory => Status::OutOfMemory,
+        }
+    }
+}
+
+impl From<AllocError> for Status {
+    ghost from_gives = { λ _ status. status ≡ OutOfMemory };
+
+    fn from(_error: AllocError) -> Status {
+        Status::OutOfMemory
+    }
+}
+
+impl From<ReadAnswer> for Status {
+    ghost from_gives = { λ answer status. status ≡ status_of_read answer };
+
+    fn from(answer: ReadAnswer) -> Status {
+        match answer {
+            ReadAnswer::Fault => Status::ReadFault,
+            ReadAnswer::TooLong => Status::Limit {
+                what: Counted::Bytes,
+                found: MOST_BYTES as u32 + 1,
+            },
+            ReadAnswer::OutOfMemory => Status::OutOfMemory,
+        }
+    }
 }
 
 fn name_of_fault(kind: TextFault) -> &'static str

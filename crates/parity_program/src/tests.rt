@@ -24,88 +24,30 @@ const STAR: &str =
 const HUB: &str =
     "parity 1 / field 2 / dimension 10 / lines 9 / line 0 1 0 0 0 0 0 0 0 0 | 0 0 1 0 0 0 0 0 0 0 / line 0 0 1 0 0 0 0 0 0 0 | 0 0 0 1 0 0 0 0 0 0 / line 1 1 0 0 0 0 0 0 0 0 | 0 0 0 1 0 0 0 0 0 0 / line 0 0 0 0 1 0 0 0 0 0 | 0 0 0 0 0 1 0 0 0 0 / line 0 0 0 0 0 1 0 0 0 0 | 0 0 0 0 0 0 1 0 0 0 / line 1 0 0 0 1 0 0 0 0 0 | 0 0 0 0 0 0 1 0 0 0 / line 0 0 0 0 0 0 0 1 0 0 | 0 0 0 0 0 0 0 0 1 0 / line 0 0 0 0 0 0 0 0 1 0 | 0 0 0 0 0 0 0 0 0 1 / line 1 0 0 0 0 0 0 1 0 0 | 0 0 0 0 0 0 0 0 0 1";
 
+/// The answer to the two lines.
 const FULL: &str = "answer 1 / size 2 / set 1 2 / kernel 0 / parts 1 / part 1 2 / end";
 
-/// The lines of a text, each ended by LF.
-fn lines(alloc: Global, text: &str) -> Result<Vec<u8>, AllocError> {
-    let mut bytes = Vec::new(alloc);
-    if text.is_empty() {
-        return Ok(bytes);
-    }
-    for line in text.split(" / ") {
-        bytes.extend_from_slice(line.as_bytes())?;
-        bytes.push(b'\n')?;
-    }
-    Ok(bytes)
-}
-
-/// The lines of one text and then of another.
-fn joined(alloc: Global, text: &str, more: &str) -> Result<Vec<u8>, AllocError> {
-    let mut bytes = lines(alloc, text)?;
-    bytes.extend_from_slice(&lines(alloc, more)?)?;
-    Ok(bytes)
-}
-
-/// How the command of this word ends on these bytes, and what it writes.
-fn ran(alloc: Global, word: &str, bytes: &[u8]) -> Result<(Status, Vec<u8>), AllocError> {
-    let mut words = Vec::new(alloc);
-    words.push(String::from_str(alloc, word)?)?;
-    let mut input = SteadySource::new(bytes);
-    let mut output = MemorySink::new(alloc, 200, 200, &[])?;
-    let status = run(alloc, &words, &mut input, &mut output);
-    let mut written = Vec::new(alloc);
-    written.extend_from_slice(output.bytes())?;
-    Ok((status, written))
-}
-
-/// Each row ends as it says, and writes what it says.
-fn assert_rows(
-    rt: &impl Abort,
-    alloc: Global,
-    word: &str,
-    before: &[u8],
-    rows: &str,
-) -> Result<(), AllocError> {
-    for row in rows.split('\n') {
-        let mut parts = row.split(" => ");
-        let text = parts.next().unwrap_or("");
-        let want = parts.next().unwrap_or("");
-        let reply = parts.next().unwrap_or("");
-        let mut bytes = Vec::new(alloc);
-        bytes.extend_from_slice(before)?;
-        bytes.extend_from_slice(&lines(alloc, text)?)?;
-        let (status, written) = ran(alloc, word, &bytes)?;
-        assert_eq!(rt;
-            status.line().as_bytes(),
-            lines(alloc, want)?.as_slice(),
-            "at {row}"
-        );
-        assert_eq!(rt;
-            written.as_slice(),
-            lines(alloc, reply)?.as_slice(),
-            "at {row}"
-        );
-    }
-    Ok(())
-}
-
-#[test]
-fn answers_are_checked(rt: HostRuntime) -> Result<(), Fail> {
-    let alloc = rt.alloc();
-    let star =
+/// Answers, behind the problems that they are answers to.
+const VERDICTS: [(&str, &str); 4] = [
+    (
+        STAR,
         "answer 1 / size 1 / set 2 / kernel 1 / vector 1 0 0 0 / parts 3 / part 1 / part 2 / part 3 / end => done => yes
 answer 1 / size 2 / set 1 2 / kernel 1 / vector 1 0 0 0 / parts 3 / part 1 / part 2 / part 3 / end => no => no dependent
 answer 1 / size 1 / set 2 / kernel 2 / vector 1 0 0 0 / vector 1 0 0 0 / parts 3 / part 1 / part 2 / part 3 / end => no => no kernel dependent
 answer 1 / size 1 / set 2 / kernel 1 / vector 1 0 0 0 / parts 3 / part 1 3 / part 2 / part 3 / end => no => no twice 3
-answer 1 / size 1 / set 2 / kernel 0 / parts 1 / part 1 2 3 / end => no => no bound 1 2";
-    assert_rows(&rt, alloc, "check", &lines(alloc, STAR)?, star)?;
-    let two = "answer 1 / size 2 / set 1 2 / kernel 0 / parts 1 / part 1 2 / end => done => yes
-answer 1 / size 2 / set 1 2 / kernel 0 / parts 1 / part 1 / end => no => no missing 2";
-    assert_rows(&rt, alloc, "check", &lines(alloc, TWO_LINES)?, two)?;
-    let hub =
-        "answer 1 / size 4 / set 1 3 4 7 / kernel 1 / vector 1 0 0 0 0 0 0 0 0 0 / parts 3 / part 1 2 3 / part 4 5 6 / part 7 8 9 / end => done => yes";
-    assert_rows(&rt, alloc, "check", &lines(alloc, HUB)?, hub)?;
-    let fields =
+answer 1 / size 1 / set 2 / kernel 0 / parts 1 / part 1 2 3 / end => no => no bound 1 2",
+    ),
+    (
+        TWO_LINES,
+        "answer 1 / size 2 / set 1 2 / kernel 0 / parts 1 / part 1 2 / end => done => yes
+answer 1 / size 2 / set 1 2 / kernel 0 / parts 1 / part 1 / end => no => no missing 2",
+    ),
+    (
+        HUB,
+        "answer 1 / size 4 / set 1 3 4 7 / kernel 1 / vector 1 0 0 0 0 0 0 0 0 0 / parts 3 / part 1 2 3 / part 4 5 6 / part 7 8 9 / end => done => yes",
+    ),
+    (
+        "",
         "parity 1 / field 256 / dimension 2 / lines 1 / line 83 1 | 1 202 / answer 1 / size 0 / set / kernel 0 / parts 1 / part 1 / end => done => yes
 parity 1 / field 256 / dimension 2 / lines 1 / line 83 1 | 1 203 / answer 1 / size 0 / set / kernel 0 / parts 1 / part 1 / end => no => no bound 0 1
 parity 1 / field 5 / dimension 2 / lines 1 / line 1 2 | 2 4 / answer 1 / size 1 / set 1 / kernel 0 / parts 1 / part 1 / end => no => no dependent
@@ -113,78 +55,25 @@ parity 1 / field 251 / dimension 2 / lines 1 / line 250 0 | 0 250 / answer 1 / s
 parity 1 / field 3 / dimension 2 / lines 1 / line 1 2 | 2 2 / answer 1 / size 1 / set 1 / kernel 0 / parts 1 / part 1 / end => done => yes
 # one\r / \r / parity 000000001 # two\r / \tfield  003\r / dimension 1\r / lines 01\r / line 2 | 000000000\r / answer 1 / size 0 / set / kernel 0 / parts 1 / part 1#\u{ff}\0 / end\t => done => yes
 parity 1 / field 5 / dimension 0 / lines 2 / line | /  / line\t| # \u{80} / answer 1 / size 0 / set / kernel 0 / parts 1 / part 1 2 / end => done => yes
-parity 1 / field 2 / dimension 128 / lines 0 / answer 1 / size 0 / set / kernel 0 / parts 0 / end => done => yes";
-    assert_rows(&rt, alloc, "check", &[], fields)?;
-    Ok(())
-}
+parity 1 / field 2 / dimension 128 / lines 0 / answer 1 / size 0 / set / kernel 0 / parts 0 / end => done => yes",
+    ),
+];
 
-#[test]
-fn sets_are_improved(rt: HostRuntime) -> Result<(), Fail> {
-    let rows =
-        "parity 1 / field 3 / dimension 4 / lines 3 / line 1 0 0 0 | 0 1 0 0 / line 2 0 0 0 | 0 0 1 0 / line 0 2 0 0 | 0 0 1 1 / choice 1 / size 1 / set 1 / end => done => choice 1 / size 2 / set 2 3 / end
+/// Sets of lines, each behind a problem.
+const IMPROVEMENTS: &str =
+    "parity 1 / field 3 / dimension 4 / lines 3 / line 1 0 0 0 | 0 1 0 0 / line 2 0 0 0 | 0 0 1 0 / line 0 2 0 0 | 0 0 1 1 / choice 1 / size 1 / set 1 / end => done => choice 1 / size 2 / set 2 3 / end
 parity 1 / field 2 / dimension 2 / lines 1 / line 1 0 | 0 1 / choice 1 / size 0 / set / end => done => choice 1 / size 1 / set 1 / end
 parity 1 / field 2 / dimension 4 / lines 3 / line 1 0 0 0 | 0 1 0 0 / line 1 0 0 0 | 0 0 1 0 / line 1 0 0 0 | 0 0 0 1 / choice 1 / size 1 / set 1 / end => done => none
 parity 1 / field 2 / dimension 6 / lines 5 / line 1 0 0 0 0 0 | 0 1 0 0 0 0 / line 0 1 0 0 0 0 | 0 0 1 0 0 0 / line 0 0 1 0 0 0 | 0 0 0 1 0 0 / line 0 0 0 1 0 0 | 0 0 0 0 1 0 / line 0 0 0 0 1 0 | 0 0 0 0 0 1 / choice 1 / size 2 / set 2 4 / end => done => none
 parity 1 / field 2 / dimension 2 / lines 0 / choice 1 / size 0 / set / end => done => none
 parity 1 / field 256 / dimension 2 / lines 1 / line 83 1 | 1 202 / choice 1 / size 1 / set 1 / end => no => no dependent / relation 1 83
 parity 1 / field 5 / dimension 2 / lines 1 / line 1 2 | 2 4 / choice 1 / size 1 / set 1 / end => no => no dependent / relation 1 2";
-    assert_rows(&rt, rt.alloc(), "improve", &[], rows)?;
-    Ok(())
-}
 
-/// Puts a space and a unit vector of dimension 16 last.
-fn put_unit(out: &mut Vec<u8>, at: usize) -> Result<(), AllocError> {
-    for i in 0..16 {
-        out.extend_from_slice(if i == at { b" 1" } else { b" 0" })?;
-    }
-    Ok(())
-}
-
-/// The path of 16 vertices, of which one perfect matching covers all: more than 500 words.
-fn path(alloc: Global, count: &str) -> Result<Vec<u8>, AllocError> {
-    let mut out = lines(alloc, "parity 1 / field 2 / dimension 16")?;
-    out.extend_from_slice(b"lines ")?;
-    out.extend_from_slice(count.as_bytes())?;
-    for i in 0..15 {
-        out.extend_from_slice(b"\nline")?;
-        put_unit(&mut out, i)?;
-        out.extend_from_slice(b" |")?;
-        put_unit(&mut out, i + 1)?;
-    }
-    out.push(b'\n')?;
-    Ok(out)
-}
-
-// Want of memory is no excuse here: replies, a fault and a limit deep inside an input of some size.
-#[test]
-fn a_long_path_is_answered(rt: HostRuntime) -> Result<(), Fail> {
-    let alloc = rt.alloc();
-    let answers =
-        "answer 1 / size 8 / set 1 3 5 7 9 11 13 15 / kernel 1 / vector 0 0 0 0 0 0 0 0 0 0 0 0 0 0 0 1 / parts 1 / part 1 2 3 4 5 6 7 8 9 10 11 12 13 14 15 / end => done => yes
-answer 1 / size 7 / set 1 3 5 7 9 11 13 / kernel 0 / parts 1 / part 1 2 3 4 5 6 7 8 9 10 11 12 13 14 15 / end => no => no bound 7 8
-answer 1 / size 8 / set 1 3 5 7 9 11 13 15 / kernel 0 / parts 1 / part 1 2 3 4 5 6 7 8 9 10 11 12 13 14 16 / end => bad text: line 25: range
-answer 1 / size 8 / set 1 3 5 7 9 11 13 15 / kernel 0 / parts 2049 => limit: parts 2049";
-    assert_rows(&rt, alloc, "check", &path(alloc, "15")?, answers)?;
-    let choices =
-        "choice 1 / size 7 / set 1 3 5 7 9 11 13 / end => done => choice 1 / size 8 / set 1 3 5 7 9 11 13 15 / end
-choice 1 / size 8 / set 1 3 5 7 9 11 13 15 / end => done => none
-choice 1 / size 8 / set 1 3 5 7 9 10 12 14 / end => no => no dependent / relation 0 0 0 0 0 0 0 0 0 1 1 0 0 0 0 0
-choice 1 / size 7 / set 1 3 5 7 9 11 16 / end => bad text: line 22: range";
-    assert_rows(&rt, alloc, "improve", &path(alloc, "15")?, choices)?;
-    assert_rows(
-        &rt,
-        alloc,
-        "improve",
-        &path(alloc, "2049")?,
-        " => limit: lines 2049",
-    )?;
-    Ok(())
-}
-
-#[test]
-fn heads_and_problems_are_refused(rt: HostRuntime) -> Result<(), Fail> {
-    let alloc = rt.alloc();
-    let heads = " => bad text: line 1: missing
+/// What is refused at the head, at the sizes and at the lines of a problem.
+const REFUSED_PROBLEMS: [(&str, &str); 3] = [
+    (
+        "",
+        " => bad text: line 1: missing
  / # one => bad text: line 3: missing
 matrix 1 => bad text: line 1: word
 party 2\u{80} => bad text: line 1: byte
@@ -205,9 +94,11 @@ parity 1 / field => bad text: line 2: count
 parity 1 / field -2 => bad text: line 2: number
 parity 1 / field 4 2 => bad text: line 2: field
 parity 1 / field 65538 => bad text: line 2: field
-parity 1 / field 2 2 => bad text: line 2: count";
-    assert_rows(&rt, alloc, "check", &[], heads)?;
-    let sizes = " => bad text: line 3: missing
+parity 1 / field 2 2 => bad text: line 2: count",
+    ),
+    (
+        "parity 1 / field 2",
+        " => bad text: line 3: missing
 lines 129 => bad text: line 3: word
 dimension => bad text: line 3: count
 dimension d 1 => bad text: line 3: number
@@ -221,15 +112,11 @@ dimension 1 / lines 1.0 => bad text: line 4: number
 dimension 1 / lines 2049 x => limit: lines 2049
 dimension 1 / lines 2048 => bad text: line 5: missing
 dimension 1 / lines 0 0 => bad text: line 4: count
-dimension 0 / lines 0 => bad text: line 5: missing";
-    assert_rows(
-        &rt,
-        alloc,
-        "check",
-        &lines(alloc, "parity 1 / field 2")?,
-        sizes,
-    )?;
-    let pairs = " => bad text: line 5: missing
+dimension 0 / lines 0 => bad text: line 5: missing",
+    ),
+    (
+        "parity 1 / field 251 / dimension 2 / lines 2",
+        " => bad text: line 5: missing
 row 251 0 => bad text: line 5: word
 line 1 => bad text: line 5: count
 line 1 | 0 1 => bad text: line 5: number
@@ -240,17 +127,12 @@ line 1 250 => bad text: line 5: count
 line 1 250 | 0 => bad text: line 5: count
 line 1 250 | 65536 x => bad text: line 5: range
 line 1 250 | 0 1 0 => bad text: line 5: count
-line 1 250 | 0 1 /  / line 0 0 | 0 251 => bad text: line 7: range";
-    let before = lines(alloc, "parity 1 / field 251 / dimension 2 / lines 2")?;
-    assert_rows(&rt, alloc, "check", &before, pairs)?;
-    Ok(())
-}
+line 1 250 | 0 1 /  / line 0 0 | 0 251 => bad text: line 7: range",
+    ),
+];
 
-#[test]
-fn answers_and_choices_are_refused(rt: HostRuntime) -> Result<(), Fail> {
-    let alloc = rt.alloc();
-    let star = lines(alloc, STAR)?;
-    let sets = "line 1 0 0 0 | 0 1 0 0 => bad text: line 8: word
+/// Behind three lines, what is refused at an answer.
+const REFUSED_SETS: &str = "line 1 0 0 0 | 0 1 0 0 => bad text: line 8: word
 choice 2 => bad text: line 8: word
 answer 2 x => bad text: line 8: version
 answer 1 / set => bad text: line 9: word
@@ -266,8 +148,9 @@ answer 1 / size 2 / set 2 2 => bad text: line 10: order
 answer 1 / size 1 / set 3 4 => bad text: line 10: count
 answer 1 / size 999999999 / set 1 2 3 => bad text: line 10: count
 answer 1 / size 999999999 / set 1 2 3 4 => bad text: line 10: range";
-    assert_rows(&rt, alloc, "check", &star, sets)?;
-    let certificates = "kernel 129 x => limit: kernel 129
+
+/// Behind the set of an answer to them, what is refused at its certificate.
+const REFUSED_CERTIFICATES: &str = "kernel 129 x => limit: kernel 129
 kernel 128 => bad text: line 12: missing
 kernel 1 / line 5 0 => bad text: line 12: word
 kernel 1 / vector 1 0 0 2 x => bad text: line 12: range
@@ -282,36 +165,227 @@ kernel 0 / parts 1 / part 1 3 3 4 => bad text: line 13: order
 kernel 0 / parts 0 / end 1 => bad text: line 13: count
 kernel 0 / parts 0 / end / end => bad text: line 14: extra
 kernel 0 / parts 0 / end / more\x7f => bad text: line 14: byte";
-    let before = "answer 1 / size 0 / set";
-    assert_rows(
-        &rt,
-        alloc,
-        "check",
-        &joined(alloc, STAR, before)?,
-        certificates,
-    )?;
-    let choices = "answer 1 / size 1 / set 1 / end => bad text: line 8: word
+
+/// Behind three lines, what is refused at a choice.
+const REFUSED_CHOICES: &str = "answer 1 / size 1 / set 1 / end => bad text: line 8: word
 choice 0 => bad text: line 8: version
 choice 1 / size 3 / set 1 2 4 x => bad text: line 10: range
 choice 1 / size 1 / set 1 => bad text: line 11: missing
 choice 1 / size 1 / set 1 / kernel 0 => bad text: line 11: word
 choice 1 / size 1 / set 1 / end /  / 1 => bad text: line 13: extra";
-    assert_rows(&rt, alloc, "improve", &star, choices)?;
+
+/// Behind a path of 16 vertices, answers to it.
+const ANSWERS_TO_THE_PATH: &str =
+    "answer 1 / size 8 / set 1 3 5 7 9 11 13 15 / kernel 1 / vector 0 0 0 0 0 0 0 0 0 0 0 0 0 0 0 1 / parts 1 / part 1 2 3 4 5 6 7 8 9 10 11 12 13 14 15 / end => done => yes
+answer 1 / size 7 / set 1 3 5 7 9 11 13 / kernel 0 / parts 1 / part 1 2 3 4 5 6 7 8 9 10 11 12 13 14 15 / end => no => no bound 7 8
+answer 1 / size 8 / set 1 3 5 7 9 11 13 15 / kernel 0 / parts 1 / part 1 2 3 4 5 6 7 8 9 10 11 12 13 14 16 / end => bad text: line 25: range
+answer 1 / size 8 / set 1 3 5 7 9 11 13 15 / kernel 0 / parts 2049 => limit: parts 2049";
+
+/// Behind the path, choices of its lines.
+const CHOICES_OF_THE_PATH: &str =
+    "choice 1 / size 7 / set 1 3 5 7 9 11 13 / end => done => choice 1 / size 8 / set 1 3 5 7 9 11 13 15 / end
+choice 1 / size 8 / set 1 3 5 7 9 11 13 15 / end => done => none
+choice 1 / size 8 / set 1 3 5 7 9 10 12 14 / end => no => no dependent / relation 0 0 0 0 0 0 0 0 0 1 1 0 0 0 0 0
+choice 1 / size 7 / set 1 3 5 7 9 11 16 / end => bad text: line 22: range";
+
+/// How the problem of 7 begins.
+const PROBLEM_OF_SEVEN: &str =
+    "parity 1 / field 2 / dimension 60 / lines 150 / line 0 0 0 0 0 1 0 0 1 0 1 0 0 0 0 0 0 0 0 0 0 0 0 0 0 0 0 0 0 0 0 0 0 0 0 0 0 0 0 0 0 0 0 0 0 0 0 0 0 0 0 0 0 0 0 0 0 0 0 0 | 0 1 0 1 1 0 1 1 1 0 0 0 0 0 0 0 0 0 0 0 0 0 0 0 0 0 0 0 0 0 0 0 0 0 0 0 0 0 0 0 0 0 0 0 0 0 0 0 0 0 0 0 0 0 0 0 0 0 0 0";
+
+/// Words that are no command's; ` ` stands between them.
+const OTHER_WORDS: [&str; 13] = [
+    "",
+    "check x",
+    "improve extra",
+    "solve",
+    "checks",
+    "generate",
+    "generate 007",
+    "generate 00",
+    "generate 4294967296",
+    "generate -1",
+    "generate +7",
+    "generate x",
+    "generate 7 8",
+];
+
+/// Puts the lines of a text last, each ended by LF.
+fn put_lines(out: &mut Vec<u8>, text: &str) -> Result<(), AllocError> {
+    if text.is_empty() {
+        return Ok(());
+    }
+    for line in text.split(" / ") {
+        out.extend_from_slice(line.as_bytes())?;
+        out.push(b'\n')?;
+    }
+    Ok(())
+}
+
+/// The lines of one text and then of another.
+fn lines(alloc: Global, text: &str, more: &str) -> Result<Vec<u8>, AllocError> {
+    let mut bytes = Vec::new(alloc);
+    put_lines(&mut bytes, text)?;
+    put_lines(&mut bytes, more)?;
+    Ok(bytes)
+}
+
+/// The words of a text.
+fn words(alloc: Global, text: &str) -> Result<Vec<String>, AllocError> {
+    let mut words = Vec::new(alloc);
+    if text.is_empty() {
+        return Ok(words);
+    }
+    for word in text.split(' ') {
+        words.push(String::from_str(alloc, word)?)?;
+    }
+    Ok(words)
+}
+
+/// How the command of these words ends on these bytes, and what it writes.
+fn ran(alloc: Global, command: &str, bytes: &[u8]) -> Result<(Status, Vec<u8>), AllocError> {
+    let words = words(alloc, command)?;
+    let mut input = SteadySource::new(bytes);
+    let mut output = MemorySink::new(alloc, 40_000, 1000, &[])?;
+    let status = run(alloc, &words, &mut input, &mut output);
+    let mut written = Vec::new(alloc);
+    written.extend_from_slice(output.bytes())?;
+    Ok((status, written))
+}
+
+/// Each row ends as it says, and writes what it says.
+fn assert_rows(
+    rt: &impl Abort,
+    alloc: Global,
+    command: &str,
+    before: &[u8],
+    rows: &str,
+) -> Result<(), AllocError> {
+    for row in rows.split('\n') {
+        let mut parts = row.split(" => ");
+        let text = parts.next().unwrap_or("");
+        let want = parts.next().unwrap_or("");
+        let reply = parts.next().unwrap_or("");
+        let mut bytes = Vec::new(alloc);
+        bytes.extend_from_slice(before)?;
+        put_lines(&mut bytes, text)?;
+        let (status, written) = ran(alloc, command, &bytes)?;
+        assert_eq!(rt;
+            status.line().as_bytes(),
+            lines(alloc, want, "")?.as_slice(),
+            "at {row}"
+        );
+        assert_eq!(rt;
+            written.as_slice(),
+            lines(alloc, reply, "")?.as_slice(),
+            "at {row}"
+        );
+    }
+    Ok(())
+}
+
+/// The same behind each of these problems.
+fn assert_tables(
+    rt: &impl Abort,
+    alloc: Global,
+    command: &str,
+    tables: &[(&str, &str)],
+) -> Result<(), AllocError> {
+    for (before, rows) in tables {
+        assert_rows(rt, alloc, command, &lines(alloc, before, "")?, rows)?;
+    }
+    Ok(())
+}
+
+/// Puts a space and a unit vector of dimension 16 last.
+fn put_unit(out: &mut Vec<u8>, at: usize) -> Result<(), AllocError> {
+    for i in 0..16 {
+        out.extend_from_slice(if i == at { b" 1" } else { b" 0" })?;
+    }
+    Ok(())
+}
+
+/// The path of 16 vertices, of which one perfect matching covers all: more than 500 words.
+fn path(alloc: Global, count: &str) -> Result<Vec<u8>, AllocError> {
+    let mut out = lines(alloc, "parity 1 / field 2 / dimension 16", "")?;
+    out.extend_from_slice(b"lines ")?;
+    out.extend_from_slice(count.as_bytes())?;
+    for i in 0..15 {
+        out.extend_from_slice(b"\nline")?;
+        put_unit(&mut out, i)?;
+        out.extend_from_slice(b" |")?;
+        put_unit(&mut out, i + 1)?;
+    }
+    out.push(b'\n')?;
+    Ok(out)
+}
+
+// The rows of the path are replies, a fault and a limit deep inside an input of some size: want of memory is no
+// excuse there.
+#[test]
+fn each_row_ends_as_it_says(rt: HostRuntime) -> Result<(), Fail> {
+    let alloc = rt.alloc();
+    assert_tables(&rt, alloc, "check", &VERDICTS)?;
+    assert_rows(&rt, alloc, "improve", &[], IMPROVEMENTS)?;
+    assert_tables(&rt, alloc, "check", &REFUSED_PROBLEMS)?;
+    let star = lines(alloc, STAR, "")?;
+    assert_rows(&rt, alloc, "check", &star, REFUSED_SETS)?;
+    assert_rows(&rt, alloc, "improve", &star, REFUSED_CHOICES)?;
+    let set = lines(alloc, STAR, "answer 1 / size 0 / set")?;
+    assert_rows(&rt, alloc, "check", &set, REFUSED_CERTIFICATES)?;
+    let whole = path(alloc, "15")?;
+    assert_rows(&rt, alloc, "check", &whole, ANSWERS_TO_THE_PATH)?;
+    assert_rows(&rt, alloc, "improve", &whole, CHOICES_OF_THE_PATH)?;
+    let long = path(alloc, "2049")?;
+    assert_rows(&rt, alloc, "improve", &long, " => limit: lines 2049")?;
+    Ok(())
+}
+
+// A source that fails at once shows that it isn't read.
+#[test]
+fn what_reads_nothing_leaves_the_source(rt: HostRuntime) -> Result<(), Fail> {
+    let alloc = rt.alloc();
+    let begins = lines(alloc, PROBLEM_OF_SEVEN, "")?;
+    for (number, is_seven) in [
+        ("generate 7", true),
+        ("generate 0", false),
+        ("generate 4294967295", false),
+    ] {
+        let words = words(alloc, number)?;
+        let mut input = MemorySource::new(b"x", 1, &[1]);
+        let mut output = MemorySink::new(alloc, 40_000, 1000, &[])?;
+        assert_eq!(rt; run(alloc, &words, &mut input, &mut output), Status::Done);
+        assert_eq!(rt; output.bytes().starts_with(&begins), is_seven);
+        let count = output
+            .bytes()
+            .split(|b| *b == b'\n')
+            .filter(|line| line.starts_with(b"line "))
+            .count();
+        assert_eq!(rt; count, 150);
+    }
+    for text in OTHER_WORDS {
+        let words = words(alloc, text)?;
+        let mut input = MemorySource::new(b"x", 1, &[1]);
+        let mut output = MemorySink::new(alloc, 10, 2, &[])?;
+        assert_eq!(rt;
+            run(alloc, &words, &mut input, &mut output),
+            Status::Usage,
+            "at {text}"
+        );
+        assert_eq!(rt; output.bytes().len(), 0);
+    }
     Ok(())
 }
 
 #[test]
 fn faults_are_told(rt: HostRuntime) -> Result<(), Fail> {
     let alloc = rt.alloc();
-    let text = joined(alloc, TWO_LINES, FULL)?;
-    let choice = joined(alloc, TWO_LINES, "choice 1 / size 2 / set 1 2 / end")?;
+    let text = lines(alloc, TWO_LINES, FULL)?;
+    let choice = lines(alloc, TWO_LINES, "choice 1 / size 2 / set 1 2 / end")?;
     for (word, text, front) in [
         ("check", &text, b"ye".as_slice()),
         ("improve", &choice, b"no"),
     ] {
-        let mut words = Vec::new(alloc);
-        words.push(String::from_str(alloc, word)?)?;
-
+        let words = words(alloc, word)?;
         let mut input = MemorySource::new(text, 50, &[1]);
         let mut output = MemorySink::new(alloc, 100, 100, &[])?;
         let status = run(alloc, &words, &mut input, &mut output);
@@ -328,30 +402,9 @@ fn faults_are_told(rt: HostRuntime) -> Result<(), Fail> {
 }
 
 #[test]
-fn other_words_are_usage(rt: HostRuntime) -> Result<(), Fail> {
-    let alloc = rt.alloc();
-    for words in [
-        [].as_slice(),
-        &["check", "x"],
-        &["improve", "extra"],
-        &["solve"],
-    ] {
-        let mut all = Vec::new(alloc);
-        for word in words {
-            all.push(String::from_str(alloc, word)?)?;
-        }
-        let mut input = MemorySource::new(b"x", 1, &[]);
-        let mut output = MemorySink::new(alloc, 10, 2, &[])?;
-        assert_eq!(rt; run(alloc, &all, &mut input, &mut output), Status::Usage);
-        assert_eq!(rt; output.bytes().len(), 0);
-    }
-    Ok(())
-}
-
-#[test]
 fn line_ends_and_gaps_are_free(rt: HostRuntime) -> Result<(), Fail> {
-    let mut text = lines(rt.alloc(), "# a comment\r")?;
-    for b in joined(rt.alloc(), TWO_LINES, FULL)?.as_slice() {
+    let mut text = lines(rt.alloc(), "# a comment\r", "")?;
+    for b in lines(rt.alloc(), TWO_LINES, FULL)?.as_slice() {
         match *b {
             b' ' => text.push(b'\t')?,
             b'\n' => text.extend_from_slice(b"\r\n")?,
@@ -366,7 +419,7 @@ fn line_ends_and_gaps_are_free(rt: HostRuntime) -> Result<(), Fail> {
 
 #[test]
 fn cuts_are_no_answers(rt: HostRuntime) -> Result<(), Fail> {
-    let text = joined(rt.alloc(), TWO_LINES, FULL)?;
+    let text = lines(rt.alloc(), TWO_LINES, FULL)?;
     assert_eq!(rt; text.len(), 137);
     for length in 0..text.len() {
         let (status, written) = ran(rt.alloc(), "check", &text[..length])?;
@@ -383,7 +436,7 @@ fn cuts_are_no_answers(rt: HostRuntime) -> Result<(), Fail> {
 #[test]
 fn long_inputs_are_refused(rt: HostRuntime) -> Result<(), Fail> {
     let alloc = rt.alloc();
-    let text = joined(alloc, TWO_LINES, FULL)?;
+    let text = lines(alloc, TWO_LINES, FULL)?;
     for (more, want) in [
         (b"".as_slice(), Status::Done),
         (

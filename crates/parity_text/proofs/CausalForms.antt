@@ -3,11 +3,12 @@ use Rattle.std.proofs.Common.{ℕ, List, length}
 use Rattle.std.specs.Prelude.{codes}
 use Rattle.line_lexer.specs.declared.refusal.Counted.{Counted}
 use Rattle.line_lexer.specs.declared.refusal.Counted.TheVariants.{Dimension, Lines, Kernel, Parts}
-use Rattle.parity_text.specs.Files.{field_and_problem, problem_file, answer_file, choice_file}
+use Rattle.parity_lines.specs.Problems.{ParityProblem}
+use Rattle.parity_text.specs.Files.{problem_and, problem_with, problem_file, answer_file, choice_file}
 use Rattle.parity_text.specs.Texts.{head, pair, problem, sized_set, listed_set, kernel_vector, part, answer, choice, field}
 use Rattle.parity_text.proofs.Faults.{FaultsOnLine-field, FaultsOnLine-pair, FaultsOnLine-listed_set, FaultsOnLine-kernel_vector, FaultsOnLine-part}
 use Rattle.text_forms.specs.Causality.{FaultsOnLine, GivesCausally, RefusesCausally}
-use Rattle.text_forms.specs.Forms.{Form, line, version, counted, counted_within, whole_text}
+use Rattle.text_forms.specs.Forms.{Form, line, version, counted, counted_within}
 use Rattle.text_forms.specs.Places.{Place, fixed, times}
 use Rattle.text_forms.specs.Reading.{◌>>=◌, give}
 use Rattle.text_forms.proofs.Causal.{GivesCausally-give, RefusesCausally-give, GivesCausally-bind, RefusesCausally-bind, GivesCausally-line, RefusesCausally-line, GivesCausally-times, RefusesCausally-times, RefusesCausally-whole_text}
@@ -78,25 +79,21 @@ IsCausal-choice lines =
     (λ set. IsCausal-bind (line (fixed (codes "end"))) _ (IsCausal-alone (codes "end"))
     (λ _. IsCausal-give set)))
 
-IsCausal-field_and_problem : IsCausal field_and_problem
-unfolding field_and_problem
-IsCausal-field_and_problem = IsCausal-bind head _ IsCausal-head (λ q. IsCausal-bind (problem q) _ (IsCausal-problem q) (λ p. IsCausal-give (q, p)))
-
-whole : {A : Type 0} (form : Form A) → IsCausal form → RefusesCausally (whole_text form)
-whole form h = RefusesCausally-whole_text form h.0 h.1
+-- a problem with what comes behind it, and nothing more
+with_problem : {A : Type 0} (behind : ℕ → ParityProblem → Form A) → ((q : ℕ) (p : ParityProblem) → IsCausal (behind q p)) → RefusesCausally (problem_with behind)
+with_problem behind causal =
+    let h = IsCausal-bind head _ IsCausal-head (λ q. IsCausal-bind (problem q) (behind q) (IsCausal-problem q) (causal q)) in
+    RefusesCausally-whole_text (problem_and behind) h.0 h.1
 
 pub RefusesCausally-problem_file : RefusesCausally problem_file
 unfolding problem_file
-RefusesCausally-problem_file = whole field_and_problem IsCausal-field_and_problem
+RefusesCausally-problem_file = with_problem _ (λ q p. IsCausal-give (q, p))
 
 pub RefusesCausally-answer_file : RefusesCausally answer_file
 unfolding answer_file
 RefusesCausally-answer_file =
-    whole _ (IsCausal-bind field_and_problem _ IsCausal-field_and_problem
-    (λ p. IsCausal-bind (answer p.0 p.1.dimension (length p.1.lines)) _ (IsCausal-answer p.0 p.1.dimension (length p.1.lines)) (λ a. IsCausal-give (p, a))))
+    with_problem _ (λ q p. IsCausal-bind (answer q p.dimension (length p.lines)) _ (IsCausal-answer q p.dimension (length p.lines)) (λ a. IsCausal-give ((q, p), a)))
 
 pub RefusesCausally-choice_file : RefusesCausally choice_file
 unfolding choice_file
-RefusesCausally-choice_file =
-    whole _ (IsCausal-bind field_and_problem _ IsCausal-field_and_problem
-    (λ p. IsCausal-bind (choice (length p.1.lines)) _ (IsCausal-choice (length p.1.lines)) (λ set. IsCausal-give (p, set))))
+RefusesCausally-choice_file = with_problem _ (λ q p. IsCausal-bind (choice (length p.lines)) _ (IsCausal-choice (length p.lines)) (λ set. IsCausal-give ((q, p), set)))

@@ -24,4 +24,4 @@ pub use laws::{
 };
 pub use lines::{alone_line, counted_line, due_line, limited_line, read_end, version_line};
 pub use places::{entry_word, fixed_word, number_word, position_or_end, position_word};
-pub use words::end_of_line;
+pub use words::{due_word, end_of_line};

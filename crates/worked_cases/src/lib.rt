@@ -6,7 +6,11 @@
 #[cfg(test)]
 mod bases;
 #[cfg(test)]
+mod common_vectors;
+#[cfg(test)]
 mod fields;
+#[cfg(test)]
+mod overlaps;
 #[cfg(test)]
 mod places;
 #[cfg(test)]
@@ -19,3 +23,5 @@ mod sets;
 mod subspaces;
 #[cfg(test)]
 mod verdicts;
+#[cfg(test)]
+mod walks;

@@ -1,5 +1,7 @@
 //! Places of lines over an independent set, coordinates, and steps.
 
+ghost use Rattle.std.specs.Prelude.{◌≡◌, IfOk};
+
 use crate::reading::{choice, problem, shown, shown_set};
 use field_core::Field;
 use matching_state::{Matched, Place, Start};
@@ -10,12 +12,14 @@ use std::process::Abort;
 use std::test::Fail;
 
 /// The state of the set that a text chooses.
-fn ready<'a, F: Field>(
+pub fn ready<'a, F: Field>(
     rt: &impl Abort,
     alloc: Global,
     problem: &'a Problem<F>,
     text: &str,
-) -> Result<Matched<'a, F>, AllocError> {
+) -> Result<Matched<'a, F>, AllocError>
+    ensures { IfOk result (λ state. state.problem ≡ problem.now) }
+{
     match Matched::start(alloc, problem, &choice(rt, alloc, problem, text))? {
         Start::Ready(state) => Ok(state),
         Start::Relation(_) => panic!(rt; "the set is independent"),
@@ -75,10 +79,10 @@ fn step_at<F: Field>(
 }
 
 /// Three lines, of which the last two can take the place of the first.
-const THREE: &str = "parity 1\nfield 3\ndimension 4\nlines 3\n\
+pub const THREE: &str = "parity 1\nfield 3\ndimension 4\nlines 3\n\
     line 1 0 0 0 | 0 1 0 0\nline 2 0 0 0 | 0 0 1 0\nline 0 2 0 0 | 0 0 1 1\n";
 
-const FIRST: &str = "choice 1\nsize 1\nset 1\nend\n";
+pub const FIRST: &str = "choice 1\nsize 1\nset 1\nend\n";
 
 const NONE: &str = "choice 1\nsize 0\nset\nend\n";
 
@@ -114,15 +118,16 @@ fn degenerate_lines_have_places(rt: HostRuntime) -> Result<(), Fail> {
 }
 
 /// A path of five edges as lines.
-const PATH: &str = "parity 1\nfield 2\ndimension 6\nlines 5\n\
+pub const PATH: &str = "parity 1\nfield 2\ndimension 6\nlines 5\n\
     line 1 0 0 0 0 0 | 0 1 0 0 0 0\nline 0 1 0 0 0 0 | 0 0 1 0 0 0\nline 0 0 1 0 0 0 | 0 0 0 1 0 0\n\
     line 0 0 0 1 0 0 | 0 0 0 0 1 0\nline 0 0 0 0 1 0 | 0 0 0 0 0 1\n";
+
+pub const SECOND_AND_FOURTH: &str = "choice 1\nsize 2\nset 2 4\nend\n";
 
 #[test]
 fn path_has_no_direct_step(rt: HostRuntime) -> Result<(), Fail> {
     let places = "exposed 2, inside, inside, inside, exposed 4";
-    let chosen = "choice 1\nsize 2\nset 2 4\nend\n";
-    let step = step_at::<F2>(&rt, rt.alloc(), PATH, chosen, places)?;
+    let step = step_at::<F2>(&rt, rt.alloc(), PATH, SECOND_AND_FOURTH, places)?;
     assert_eq!(rt; step.as_str(), "none");
     Ok(())
 }

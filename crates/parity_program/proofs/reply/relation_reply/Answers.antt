@@ -9,6 +9,7 @@ use Rattle.parity_program.proofs.reply.relation_reply.Goals as goal
 use Rattle.parity_program.specs.Improvements.{improvement_lines}
 use Rattle.parity_program.specs.Improvements.Improvement.{dependent}
 use Rattle.parity_program.specs.Replies.{ReplyText}
+use Rattle.parity_program.specs.declared.status.Status.TheVariants.{No}
 
 -- what is put, one piece after the other, are the lines of the relation
 relation_text : (cs : List ℕ) → codes "no dependent\nrelation" ++ (flat_map (λ w. 32 ∷ w) (map decimal cs) ++ 10 ∷ []) ≡ spelled (improvement_lines (dependent cs))
@@ -21,5 +22,5 @@ returns g c =
     let cs = map g.F.Field.number c.as_slice.result.now in
     let started = rw c.new-text.ensures.items at c.in_ok-extend_from_slice.ensures.items in
     let rest = both _ _ c.push.new.self.items (flat_map (λ w. 32 ∷ w) (map decimal cs)) (10 ∷ []) c.in_ok-put_coefficients.ensures c.in_ok-push.ensures.items in
-    ap (λ (t : List ℕ). let reply : ReplyText = record { text = t; negative = true } in reply)
+    ap (λ (t : List ℕ). let reply : ReplyText = record { text = t; status = No } in reply)
     (both [] _ c.push.new.self.items (codes "no dependent\nrelation") _ started rest ∙ relation_text cs ∙ ap (λ xs. spelled (improvement_lines (dependent xs))) c.as_slice.ensures.value)

@@ -1,0 +1,15 @@
+mod Monics
+mod DirectionLaws
+mod LabelLaws
+mod TableLaws
+mod DivisionLaws
+mod Liveness
+mod FamilyTies
+mod TableSteps
+pub mod SupportTies
+pub mod StepTies
+pub mod CircuitTies
+pub mod TransitTies
+pub mod PacedTies
+pub mod CrossingTies
+pub mod LastTies

@@ -1,0 +1,13 @@
+use Rattle.std.proofs.Common.{◌≡◌}
+use Rattle.classes.specs.Pacing.{KeepsCounts}
+use Rattle.parity_theory.proofs.Nearness.{left_over}
+use Rattle.classes.proofs.pacing.reach.Given as goal
+
+abbrev pub invariant-loop-larger : goal.invariant-loop-larger
+invariant-loop-larger g l = record {
+  problem : l.state.problem ≡ l.initial.state.problem;
+  counts : KeepsCounts l.labels l.initial.state.set l.state.set;
+}
+
+abbrev pub decreases-loop-larger : goal.decreases-loop-larger
+decreases-loop-larger g l = left_over l.state.set l.target

@@ -1,0 +1,13 @@
+pub mod Directions
+pub mod Tables
+pub mod ClassLabels
+pub mod Divisions
+pub mod Partitions
+pub mod Ends
+pub mod Supports
+pub mod Sharing
+pub mod Circuits
+pub mod Pacing
+pub mod Crossings
+pub mod Parted
+pub mod Lasting

@@ -1,0 +1,4 @@
+mod CausalTexts
+mod Each
+mod KnownNames
+mod Pieces

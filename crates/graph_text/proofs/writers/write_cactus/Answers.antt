@@ -1,0 +1,24 @@
+use Rattle.std.proofs.Common.{◌++◌, map, length}
+use Rattle.std.specs.Prelude.{codes}
+use Rattle.line_lexer.specs.Words.{line_text, spelled}
+use Rattle.graph_text.specs.Spelled.{counted_words, listed_words}
+use Rattle.graph_text.proofs.Pieces.{first_stops, rest_stops, refused, third_is_last, reply_pieces}
+use Rattle.graph_text.proofs.writers.write_cactus.Goals as goal
+
+pub returns-in_err-put_head : goal.returns-in_err-put_head
+returns-in_err-put_head c =
+    refused c.from_residual.result c.args.out.now.items _ _ _ (reply_pieces (counted_words (codes "cactus") 1) (counted_words (codes "size") (length c.args.triangles.now)) (map (listed_words (codes "triangle") c.args.graph.now) c.args.triangles.now)) c.from_residual.ensures.0
+    (first_stops _ _ _ _ (rw c.len.ensures at c.in_err-put_head.ensures))
+
+pub returns-in_err-put_lists : goal.returns-in_err-put_lists
+returns-in_err-put_lists c =
+    refused c.from_residual-in_err-put_lists.result c.args.out.now.items _ _ _ (reply_pieces (counted_words (codes "cactus") 1) (counted_words (codes "size") (length c.args.triangles.now)) (map (listed_words (codes "triangle") c.args.graph.now) c.args.triangles.now)) c.from_residual-in_err-put_lists.ensures.0
+    (rest_stops _ _ _ _ _ (rw c.len.ensures at c.in_ok-put_head.ensures) (first_stops _ _ _ _ c.in_err-put_lists.ensures))
+
+pub returns : goal.returns
+returns c =
+    let head = counted_words (codes "cactus") 1 in
+    let count = counted_words (codes "size") (length c.args.triangles.now) in
+    let ls = map (listed_words (codes "triangle") c.args.graph.now) c.args.triangles.now in
+    third_is_last c.args.out.now.items c.put_head.new.out.items c.put_lists.new.out.items c.put.new.out.items (line_text head ++ line_text count) (spelled ls) (codes "end\n") _ c.put.result
+    (reply_pieces head count ls) (rw c.len.ensures at c.in_ok-put_head.ensures) c.in_ok-put_lists.ensures c.put.ensures

@@ -1,0 +1,24 @@
+use Rattle.std.proofs.Common.{◌++◌, map, length}
+use Rattle.std.specs.Prelude.{codes}
+use Rattle.line_lexer.specs.Words.{line_text, spelled}
+use Rattle.graph_text.specs.Spelled.{counted_words, edge_words}
+use Rattle.graph_text.proofs.Pieces.{first_stops, rest_stops, refused, third_is_last, reply_pieces}
+use Rattle.graph_text.proofs.writers.write_matching.Goals as goal
+
+pub returns-in_err-put_head : goal.returns-in_err-put_head
+returns-in_err-put_head c =
+    refused c.from_residual.result c.args.out.now.items _ _ _ (reply_pieces (counted_words (codes "matching") 1) (counted_words (codes "size") (length c.args.edges.now)) (map (edge_words c.args.graph.now) c.args.edges.now)) c.from_residual.ensures.0
+    (first_stops _ _ _ _ (rw c.len.ensures at c.in_err-put_head.ensures))
+
+pub returns-in_err-put_edges : goal.returns-in_err-put_edges
+returns-in_err-put_edges c =
+    refused c.from_residual-in_err-put_edges.result c.args.out.now.items _ _ _ (reply_pieces (counted_words (codes "matching") 1) (counted_words (codes "size") (length c.args.edges.now)) (map (edge_words c.args.graph.now) c.args.edges.now)) c.from_residual-in_err-put_edges.ensures.0
+    (rest_stops _ _ _ _ _ (rw c.len.ensures at c.in_ok-put_head.ensures) (first_stops _ _ _ _ c.in_err-put_edges.ensures))
+
+pub returns : goal.returns
+returns c =
+    let head = counted_words (codes "matching") 1 in
+    let count = counted_words (codes "size") (length c.args.edges.now) in
+    let ls = map (edge_words c.args.graph.now) c.args.edges.now in
+    third_is_last c.args.out.now.items c.put_head.new.out.items c.put_edges.new.out.items c.put.new.out.items (line_text head ++ line_text count) (spelled ls) (codes "end\n") _ c.put.result
+    (reply_pieces head count ls) (rw c.len.ensures at c.in_ok-put_head.ensures) c.in_ok-put_edges.ensures c.put.ensures

@@ -1,0 +1,6 @@
+pub mod Statements
+pub mod Spells
+pub mod Texts
+pub mod Steps
+pub mod Spelled
+pub mod Writes

@@ -1,0 +1,60 @@
+-- The one spelling of the replies that speak of a graph, as lines of words.
+use Rattle.std.specs.Prelude.{◌≡◌, ℕ, ◌+◌, ◌<◌, List, [], ◌∷◌, ◌++◌, All, length, map, slice_index_or, codes}
+use Rattle.std.specs.Fmt.{decimal}
+use Rattle.std.specs.List.Sorted.{IsStrictlyIncreasing}
+use Rattle.graph_core.specs.NamedGraphs.{NamedGraph}
+use Rattle.graph_theory.specs.Cacti.{corners, IsLexicographic}
+use Rattle.graph_theory.specs.Walks.{edge_at}
+
+-- a name and a number
+abbrev pub counted_words : List ℕ → ℕ → List (List ℕ)
+counted_words name n = name ∷ decimal n ∷ []
+
+abbrev pub end_line : List (List (List ℕ))
+end_line = (codes "end" ∷ []) ∷ []
+
+-- the name of a vertex
+abbrev pub name_at : NamedGraph → ℕ → List ℕ
+name_at g v = slice_index_or g.names v []
+
+-- an edge by its number from 1 and the names of its ends, as they were put
+abbrev pub edge_words : NamedGraph → ℕ → List (List ℕ)
+edge_words g e = codes "edge" ∷ decimal (e + 1) ∷ name_at g (edge_at g.ends e).0 ∷ name_at g (edge_at g.ends e).1 ∷ []
+
+-- a word and the names of vertices
+abbrev pub listed_words : List ℕ → NamedGraph → List ℕ → List (List ℕ)
+listed_words word g vertices = word ∷ map (name_at g) vertices
+
+abbrev pub matching_lines : NamedGraph → List ℕ → List (List (List ℕ))
+matching_lines g edges = counted_words (codes "matching") 1 ∷ counted_words (codes "size") (length edges) ∷ map (edge_words g) edges ++ end_line
+
+abbrev pub cactus_lines : NamedGraph → List (List ℕ) → List (List (List ℕ))
+cactus_lines g triangles = counted_words (codes "cactus") 1 ∷ counted_words (codes "size") (length triangles) ∷ map (listed_words (codes "triangle") g) triangles ++ end_line
+
+abbrev pub paths_lines : NamedGraph → List (List ℕ) → List (List (List ℕ))
+paths_lines g paths = counted_words (codes "paths") 1 ∷ counted_words (codes "count") (length paths) ∷ map (listed_words (codes "path") g) paths ++ end_line
+
+-- vertices of the graph
+abbrev pub AreVertices : NamedGraph → List ℕ → Type 0
+AreVertices g vertices = All (λ v. v < length g.names) vertices
+
+-- triples of vertices, each increasing, in lexicographic order
+pub record AreTriples (lists : List (List ℕ)) : Type 0 where
+  pub triples : List (ℕ × ℕ × ℕ)
+  pub corners_of : lists ≡ map corners triples
+  pub rise : All (λ (t : ℕ × ℕ × ℕ). (t.0 < t.1) × (t.1 < t.2)) triples
+  pub ordered : IsLexicographic triples
+
+-- the first vertex of a list, and its last
+abbrev pub first_of : List ℕ → ℕ
+first_of vertices = slice_index_or vertices 0 0
+
+abbrev pub last_of_all : List ℕ → ℕ
+last_of_all [] = 0
+last_of_all (v ∷ []) = v
+last_of_all (v ∷ w ∷ more) = last_of_all (w ∷ more)
+
+-- each path begins at its end with the smaller number, and paths stand by increasing first vertex
+pub record AreInOrder (paths : List (List ℕ)) : Type 0 where
+  pub each : All (λ path. first_of path < last_of_all path) paths
+  pub ordered : IsStrictlyIncreasing (map first_of paths)

@@ -1,0 +1,75 @@
+//! Writers of the replies that speak of a graph. After want of memory some front of the text stands behind what was there.
+
+ghost use Rattle.std.specs.Prelude.{◌≡◌, ◌<◌, All, length, map};
+ghost use Rattle.std.specs.List.Sorted.{IsStrictlyIncreasing};
+ghost use Rattle.graph_text.specs.Spelled.{edge_words, listed_words, matching_lines, cactus_lines, paths_lines, AreVertices, AreTriples, AreInOrder};
+ghost use Rattle.graph_text.specs.Writes.{Writes};
+ghost use Rattle.line_lexer.specs.Words.{spelled};
+
+use crate::writing::{put, put_edge, put_head, put_listed};
+use graph_core::{EdgeList, Graph, VertexLists};
+use std::alloc::AllocError;
+
+/// Puts the lines of the edges last.
+fn put_edges(out: &mut Vec<u8>, graph: &Graph, edges: &EdgeList) -> Result<(), AllocError>
+    requires { All (λ e. e < length graph.now.ends) edges.now }
+    ensures { Writes out.old.items out.new.items (spelled (map (edge_words graph.now) edges.now)) result }
+{
+    for i in 0..edges.len() {
+        put_edge(out, graph, edges.at(i))?;
+    }
+    Ok(())
+}
+
+/// Puts the lines of the lists last, each with the word.
+fn put_lists(
+    out: &mut Vec<u8>,
+    word: &[u8],
+    graph: &Graph,
+    lists: &VertexLists,
+) -> Result<(), AllocError>
+    requires { All (AreVertices graph.now) lists.now }
+    ensures { Writes out.old.items out.new.items (spelled (map (listed_words word.now graph.now) lists.now)) result }
+{
+    for i in 0..lists.len() {
+        put_listed(out, word, graph, lists.at(i))?;
+    }
+    Ok(())
+}
+
+/// Writes the edges of a matching behind what is there, by increasing number.
+pub fn write_matching(out: &mut Vec<u8>, graph: &Graph, edges: &EdgeList) -> Result<(), AllocError>
+    requires edges { All (λ e. e < length graph.now.ends) edges.now }
+    requires increasing { IsStrictlyIncreasing edges.now }
+    ensures { Writes out.old.items out.new.items (spelled (matching_lines graph.now edges.now)) result }
+{
+    put_head(out, b"matching", b"size", edges.len())?;
+    put_edges(out, graph, edges)?;
+    put(out, b"end\n")
+}
+
+/// Writes the triangles of a cactus behind what is there, each by increasing vertices, in lexicographic order.
+pub fn write_cactus(
+    out: &mut Vec<u8>,
+    graph: &Graph,
+    triangles: &VertexLists,
+) -> Result<(), AllocError>
+    requires vertices { All (AreVertices graph.now) triangles.now }
+    requires triples { AreTriples triangles.now }
+    ensures { Writes out.old.items out.new.items (spelled (cactus_lines graph.now triangles.now)) result }
+{
+    put_head(out, b"cactus", b"size", triangles.len())?;
+    put_lists(out, b"triangle", graph, triangles)?;
+    put(out, b"end\n")
+}
+
+/// Writes paths behind what is there, each from its end with the smaller number, by increasing first vertex.
+pub fn write_paths(out: &mut Vec<u8>, graph: &Graph, paths: &VertexLists) -> Result<(), AllocError>
+    requires vertices { All (AreVertices graph.now) paths.now }
+    requires order { AreInOrder paths.now }
+    ensures { Writes out.old.items out.new.items (spelled (paths_lines graph.now paths.now)) result }
+{
+    put_head(out, b"paths", b"count", paths.len())?;
+    put_lists(out, b"path", graph, paths)?;
+    put(out, b"end\n")
+}
