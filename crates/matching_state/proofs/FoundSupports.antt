@@ -1,5 +1,5 @@
 -- The support that is found line by line.
-use Rattle.std.proofs.Common.{◌≡◌, ℕ, suc, ◌+◌, ◌-◌, ◌*◌, ◌<◌, ◌⊎◌, inl, inr, List, [], ◌∷◌, ◌++◌, length, map, take, drop, replicate, get_or, sym, ap, ap₂, ◌∙◌, subst, arith, All, drop-cons}
+use Rattle.std.proofs.Common.{◌≡◌, Bool, IsTrue, ℕ, suc, ◌+◌, ◌-◌, ◌*◌, ◌<◌, ◌≤◌, ◌⊎◌, inl, inr, List, [], ◌∷◌, ◌++◌, length, map, take, drop, replicate, get_or, sym, ap, ap₂, ◌∙◌, subst, arith, All, drop-cons, take_all}
 use Rattle.std.specs.Prelude.{slice_index, ◌↔◌}
 use Rattle.std.specs.List.{Contains}
 use Rattle.std.specs.List.Sorted.{IsStrictlyIncreasing}
@@ -46,6 +46,11 @@ zero_window S f xs i h = (
     long : length (take (2 * i + 2 - 2 * i) (drop (2 * i) xs)) ≡ 2
     long = sym (length-map (take (2 * i + 2 - 2 * i) (drop (2 * i) xs)) f) ∙ ap length window
 
+-- so a test of these entries tells it
+pub zero_told : (S : Scalars) {X : Type 0} (f : X → ℕ) (xs : List X) (i : ℕ) (b : Bool) → 2 * i + 1 < length xs →
+    IsTrue b ↔ (map f (take (2 * i + 2 - 2 * i) (drop (2 * i) xs)) ≡ replicate (length (take (2 * i + 2 - 2 * i) (drop (2 * i) xs))) S.zero) → IsTrue b ↔ IsZeroAt S (map f xs) i
+zero_told S f xs i b h t = let w = zero_window S f xs i h in (λ k. w.0 (t.0 k), λ z. t.1 (w.1 z))
+
 -- a list stays increasing with one above the others
 increasing_push : (xs : List ℕ) (a : ℕ) → IsStrictlyIncreasing xs → All (λ m. m < a) xs → IsStrictlyIncreasing (xs ++ a ∷ [])
 increasing_push xs a r b k l = go (dec_lt (k + 1) (length xs))
@@ -64,11 +69,11 @@ increasing_push xs a r b k l = go (dec_lt (k + 1) (length xs))
         omega arith
 
 module _ (S : Scalars) (M cs : List ℕ) where
-  pub support_none : IsSupport S [] cs []
-  support_none = record {
+  pub support_none : (L : List ℕ) → L ≡ [] → IsSupport S [] cs L
+  support_none L e = subst (IsSupport S [] cs) (sym e) (record {
     increasing = λ k h. absurd (omega arith);
     lines = λ m. ((λ c. absurd (let h = c.1 in omega arith)), (λ h. absurd (let w = h.within in omega arith)));
-  }
+  })
 
   module _ (i : ℕ) (L : List ℕ) (h : i < length M) (rises : IsStrictlyIncreasing M) (r : IsSupport S (take i M) cs L) where
     long : length (take i M) ≡ i
@@ -106,14 +111,17 @@ module _ (S : Scalars) (M cs : List ℕ) where
         let w = k.within in
         subst (λ n. n < slice_index M i) (sym (get_or-take i M k.index 0 (omega arith)) ∙ k.line) (AllPairs-from_increasing M rises k.index i 0 (omega arith) h))
 
-    pub support_kept : IsZeroAt S cs i → IsSupport S (take (i + 1) M) cs L
-    support_kept z = record {
+    pub support_below_line : (n : ℕ) → n ≡ slice_index M i → All (λ m. m < n) L
+    support_below_line n e = subst (λ k. All (λ m. m < k) L) (sym e) support_below
+
+    pub support_kept : (after : List ℕ) → after ≡ L → IsZeroAt S cs i → IsSupport S (take (i + 1) M) cs after
+    support_kept after e z = subst (IsSupport S (take (i + 1) M) cs) (sym e) (record {
       increasing = r.increasing;
       lines = λ m. (
         (λ c. component_more m ((r.lines m).0 c)),
         (λ k. elim (component_split m k) [ inl k' ↦ (r.lines m).1 k' | inr n ↦ absurd (n.1 z) ]),
       );
-    }
+    })
 
     pub support_pushed : ¬ (IsZeroAt S cs i) → IsSupport S (take (i + 1) M) cs (L ++ slice_index M i ∷ [])
     support_pushed n = record { increasing = increasing_push L (slice_index M i) r.increasing support_below; lines = λ m. (holds m, back m) }
@@ -135,3 +143,10 @@ module _ (S : Scalars) (M cs : List ℕ) where
             go : HasComponent S (take i M) cs m ⊎ ((m ≡ a) × ¬ (IsZeroAt S cs i)) → In m (L ++ a ∷ [])
             go (inl k') = In-append_left m L (a ∷ []) (In-contains L m ((r.lines m).1 k'))
             go (inr e) = In-append_right m L (a ∷ []) (inl e.0)
+
+    -- L is written with the line at i behind
+    pub support_written : (pushed after : List ℕ) (n : ℕ) → after ≡ pushed → pushed ≡ L ++ n ∷ [] → n ≡ slice_index M i → ¬ (IsZeroAt S cs i) → IsSupport S (take (i + 1) M) cs after
+    support_written pushed after n e e' is z = subst (IsSupport S (take (i + 1) M) cs) (sym (e ∙ e' ∙ ap (λ m. L ++ m ∷ []) is)) (support_pushed z)
+
+  pub support_whole : (i : ℕ) (L : List ℕ) → length M ≤ i → IsSupport S (take i M) cs L → IsSupport S M cs L
+  support_whole i L l r = subst (λ N. IsSupport S N cs L) (take_all i M l) r

@@ -1,5 +1,5 @@
 -- What is found of the lines, line after line.
-use Rattle.std.proofs.Common.{◌≡◌, ◌≢◌, ◌<◌, ◌+◌, ℕ, List, [], ◌∷◌, ◌++◌, arith, sym, subst, below_more, inl, refl}
+use Rattle.std.proofs.Common.{◌≡◌, ◌≢◌, ◌<◌, ◌+◌, ℕ, List, [], ◌∷◌, ◌++◌, Vec, Global, arith, sym, ap, ◌∙◌, subst, below_more, inl, refl}
 use Rattle.std.specs.List.{Contains}
 use Rattle.std.proofs.lemmas.List.Elements.{All-nil, All-push, All-get_or, All-weaker}
 use Rattle.std.proofs.lemmas.List.Quantifiers.{all_pairs_push}
@@ -44,3 +44,10 @@ module _ {X : Type 0} (S : Scalars) (p : ParityProblem) (M : List ℕ) where
     not_free = below_more _ n a.not_free (λ f. let k : rank_beside S p M n ≡ 1 = subst (λ e. rank_beside S p M e ≡ 1) l h.exposed.beside in omega arith);
     all = below_more _ n (λ k m z. let r = a.all k m z in (r.0, contains-In (xs ++ x ∷ []) r.0 (In-append_left r.0 xs (x ∷ []) (In-contains xs r.0 r.1)), r.2)) (λ z. (x, contains-In (xs ++ x ∷ []) x (In-append_right x xs (x ∷ []) (inl refl)), l));
   })
+
+  -- as a vector that a call wrote
+  pub line_written : (n : ℕ) (xs : List (Exposure X)) (pushed after : Vec (Exposure X) Global) (x : Exposure X) → after ≡ pushed → pushed.items ≡ xs ++ x ∷ [] → AreExposed S p M n xs → x.line ≡ n → IsExposure S p M x → AreExposed S p M (n + 1) after.items
+  line_written n xs pushed after x e e' a l h = line_kept n xs after.items x (ap (λ (v : Vec (Exposure X) Global). v.items) e ∙ e') a l h
+
+  pub line_left : (n : ℕ) (before after : Vec (Exposure X) Global) → after ≡ before → AreExposed S p M n before.items → rank_beside S p M n ≢ 2 → ¬ (IsExposed S p M n) → AreExposed S p M (n + 1) after.items
+  line_left n before after e a f o = subst (λ (v : Vec (Exposure X) Global). AreExposed S p M (n + 1) v.items) (sym e) (line_passed n before.items a f o)

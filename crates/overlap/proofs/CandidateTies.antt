@@ -1,5 +1,5 @@
 -- Exposed lines overlap where their supports have a common line and their residues are no multiples of each other.
-use Rattle.std.proofs.Common.{◌≡◌, ℕ, ◌+◌, ◌<◌, inl, List, [], ◌∷◌, ◌++◌, All, length, refl, sym, ◌∙◌, subst, arith, below_more}
+use Rattle.std.proofs.Common.{◌≡◌, ℕ, ◌+◌, ◌<◌, inl, List, [], ◌∷◌, ◌++◌, Vec, Global, All, length, refl, sym, ap, ◌∙◌, subst, arith, below_more}
 use Rattle.std.specs.List.{Contains}
 use Rattle.std.proofs.lemmas.List.Elements.{All-nil, All-cons, All-head, All-push}
 use Rattle.vector_spaces.proofs.Members.{In-all, all-In, contains-In, In-contains, In-append_left, In-append_right}
@@ -43,10 +43,10 @@ module _ (S : Scalars) (F : IsField S) (d : ℕ) (a : List ℕ) (v : IsVector S 
 
 module _ {X : Type 0} (S : Scalars) (p : ParityProblem) (M : List ℕ) where
   -- the exposed lines below n + 1, one after the other
-  pub line_passed : (n : ℕ) (xs : List (Candidate X)) → AreCandidates S p M n xs → ¬ (IsExposed S p M n) → AreCandidates S p M (n + 1) xs
+  line_passed : (n : ℕ) (xs : List (Candidate X)) → AreCandidates S p M n xs → ¬ (IsExposed S p M n) → AreCandidates S p M (n + 1) xs
   line_passed n xs a o = record { candidates = a.candidates; all = below_more _ n a.all (λ x. absurd (o x)) }
 
-  pub line_kept : (n : ℕ) (xs ys : List (Candidate X)) (x : Candidate X) → ys ≡ xs ++ x ∷ [] → AreCandidates S p M n xs → x.line ≡ n →
+  line_kept : (n : ℕ) (xs ys : List (Candidate X)) (x : Candidate X) → ys ≡ xs ++ x ∷ [] → AreCandidates S p M n xs → x.line ≡ n →
       IsCandidate S p M x → AreCandidates S p M (n + 1) ys
   line_kept n xs ys x e a l h = subst (AreCandidates S p M (n + 1)) (sym e) (record {
     candidates = All-push (IsCandidate S p M) xs x a.candidates h;
@@ -54,6 +54,14 @@ module _ {X : Type 0} (S : Scalars) (p : ParityProblem) (M : List ℕ) where
         (λ k m z. let r = a.all k m z in (r.0, contains-In (xs ++ x ∷ []) r.0 (In-append_left r.0 xs (x ∷ []) (In-contains xs r.0 r.1)), r.2))
         (λ z. (x, contains-In (xs ++ x ∷ []) x (In-append_right x xs (x ∷ []) (inl refl)), l));
   })
+
+  -- as a vector that a call wrote
+  pub line_written : (n : ℕ) (xs : List (Candidate X)) (pushed after : Vec (Candidate X) Global) (x : Candidate X) → after ≡ pushed → pushed.items ≡ xs ++ x ∷ [] → AreCandidates S p M n xs → x.line ≡ n →
+      IsCandidate S p M x → AreCandidates S p M (n + 1) after.items
+  line_written n xs pushed after x e e' a l h = line_kept n xs after.items x (ap (λ (v : Vec (Candidate X) Global). v.items) e ∙ e') a l h
+
+  pub line_left : (n : ℕ) (before after : Vec (Candidate X) Global) → after ≡ before → AreCandidates S p M n before.items → ¬ (IsExposed S p M n) → AreCandidates S p M (n + 1) after.items
+  line_left n before after e a o = subst (λ (v : Vec (Candidate X) Global). AreCandidates S p M (n + 1) v.items) (sym e) (line_passed n before.items a o)
 
 module _ (S : Scalars) (F : IsField S) (p : ParityProblem) (P : IsProblem S p) (M : List ℕ) (i : IsIndependentSet S p M) {X : Type 0} where
   module _ (x y : Candidate X) (a : IsCandidate S p M x) (b : IsCandidate S p M y) where

@@ -54,6 +54,10 @@ module _ (S : Scalars) (c : ℕ) (cs ds : List ℕ) where
     each = λ k l. h.each k (let m = h.length_is in omega arith);
   }
 
+  -- as a row that shows them
+  pub kept_row : {X : Type 0} (f : X → ℕ) (i : ℕ) (ks shown : List X) (row : List ℕ) → i ≡ length cs / 2 → shown ≡ ks → row ≡ map f shown → AreKeptBelow S c cs ds i (map f ks) → AreKept S c cs ds row
+  kept_row f i ks shown row e is is_row h = subst (AreKept S c cs ds) (sym (is_row ∙ ap (map f) is)) (kept_all i (map f ks) e h)
+
 -- a b' and a' b are the same, and c is the inverse of a: b times c is the ratio of both pairs
 module _ (S : Scalars) (F : IsField S) (a a' b b' c : ℕ) (ha : IsScalar S a) (ha' : IsScalar S a') (hb : IsScalar S b) (hb' : IsScalar S b')
     (hc : IsScalar S c) (inverse : S.product a c ≡ S.one) where

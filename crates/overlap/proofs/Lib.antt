@@ -7,3 +7,4 @@ pub mod OverlapTies
 pub mod PointsOfTips
 pub mod Raised
 pub mod CandidateTies
+pub mod Seen

@@ -1,5 +1,5 @@
 -- A set that misses the point of an overlap never settles at the lines of the overlap.
-use Rattle.std.proofs.Common.{◌≡◌, ℕ, ◌<◌, ◌⊎◌, inl, inr, List, [], ◌∷◌, All, length, subst, sym, ◌∙◌}
+use Rattle.std.proofs.Common.{◌≡◌, ℕ, ◌<◌, ◌⊎◌, inl, inr, List, [], ◌∷◌, All, length, subst, sym, ap, ◌∙◌}
 use Rattle.std.specs.Prelude.{◌↔◌}
 use Rattle.std.specs.List.{Contains}
 use Rattle.std.proofs.lemmas.List.Elements.{All-nil, All-cons}
@@ -13,6 +13,8 @@ use Rattle.linear_algebra.proofs.Coordinates.{tuple, space}
 use Rattle.linear_algebra.proofs.Elements.{Element, scalar_field}
 use Rattle.exchanges.specs.Exchanges.{IsSettled, StillMisses}
 use Rattle.exchanges.proofs.SettledSets.{settled_tuples}
+use Rattle.field_core.specs.Matrix.{Matrix}
+use Rattle.matching_state.specs.Chosen.{Chosen}
 use Rattle.matching_state.specs.Missing.{Misses}
 use Rattle.matching_state.specs.Overlaps.{IsOverlap}
 use Rattle.matching_state.proofs.Ties.{span_to, misses_to}
@@ -80,7 +82,7 @@ module _ (S : Scalars) (F : IsField S) (p : ParityProblem) (P : IsProblem S p) (
     all l (inr (inl q)) = In-contains T l ((t l).1 (inr (inr q)))
     all l (inr (inr j)) = In-contains T l ((t l).1 (inl (contains-In M l j)))
 
-    pub target_within : All (λ m. m < length p.lines) T
+    target_within : All (λ m. m < length p.lines) T
     target_within = all-In (λ m. m < length p.lines) T (λ l j. lines_below l (among l j))
 
     never_settles : (N : List ℕ) → IsIndependentSet S p N → length N ≡ length M → Misses S p N (point ∷ []) → ¬ (IsSettled S p (point ∷ []) T N)
@@ -93,7 +95,7 @@ module _ (S : Scalars) (F : IsField S) (p : ParityProblem) (P : IsProblem S p) (
         (λ l q. overlap_line_independent sp line M e h overlap l (among l q)))
 
     -- nor does one that is reached from it, in the words of a walk
-    pub walk_never_settles : (K N : List ℕ) (keep : List (List ℕ)) (q : ParityProblem) → q ≡ p → keep ≡ point ∷ [] → length K ≡ length M →
+    walk_never_settles : (K N : List ℕ) (keep : List (List ℕ)) (q : ParityProblem) → q ≡ p → keep ≡ point ∷ [] → length K ≡ length M →
         StillMisses S q keep K N → ¬ (IsSettled S q keep T N)
     walk_never_settles K N keep q e w len k s =
         let kept : StillMisses S p (point ∷ []) K N =
@@ -101,3 +103,12 @@ module _ (S : Scalars) (F : IsField S) (p : ParityProblem) (P : IsProblem S p) (
         let settled : IsSettled S p (point ∷ []) T N =
         subst (λ (vs : List (List ℕ)). IsSettled S p vs T N) w (subst (λ (r : ParityProblem). IsSettled S r keep T N) e s) in
         never_settles N kept.independent (kept.as_long ∙ len) kept.missed settled
+
+    -- the same of a state that is made for a problem q, which is p, and a set K, where keep has the point alone, as it is seen
+    pub within_state : (state : Chosen) (q : ParityProblem) (K : List ℕ) → state ≡ record { problem = q; set = K } → q ≡ p → All (λ m. m < length state.problem.lines) T
+    within_state state q K is is_p = subst (λ (r : ParityProblem). All (λ m. m < length r.lines) T) (sym (ap (λ (s : Chosen). s.problem) is ∙ is_p)) target_within
+
+    pub state_never_settles : (state : Chosen) (q : ParityProblem) (K N : List ℕ) (keep : Matrix) (seen : List ℕ) (n : ℕ) → state ≡ record { problem = q; set = K } → q ≡ p → keep ≡ record { width = n; rows = seen ∷ [] } → seen ≡ point →
+        length K ≡ length M → StillMisses S state.problem keep.rows state.set N → ¬ (IsSettled S state.problem keep.rows T N)
+    state_never_settles state q K N keep seen n is is_p is_keep is_seen len k s =
+        walk_never_settles state.set N keep.rows state.problem (ap (λ (s : Chosen). s.problem) is ∙ is_p) (ap (λ (m : Matrix). m.rows) is_keep ∙ ap (λ (v : List ℕ). v ∷ []) is_seen) (ap (λ (s : Chosen). length s.set) is ∙ len) k s

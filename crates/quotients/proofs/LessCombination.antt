@@ -47,9 +47,9 @@ module _ (S : Scalars) (F : IsField S) (d : ℕ) where
       pub vector : IsVector S d left
       pub sum : v ≡ vector_sum S left (combination S d (take i cs) (take i rows))
 
-    pub less_none : (v : List ℕ) → IsVector S d v → IsLessFirst v 0 v
+    pub less_none : (v left : List ℕ) → IsVector S d v → left ≡ v → IsLessFirst v 0 left
     unfolding combination
-    less_none v h = record { vector = h; sum = sym (vector_sum-zero S F d v h) }
+    less_none v left h e = subst (IsLessFirst v 0) (sym e) (record { vector = h; sum = sym (vector_sum-zero S F d v h) })
 
     pub less_more : All (IsScalar S) cs → AreVectors S d rows → length cs ≡ length rows → (v left after r : List ℕ) (i a b : ℕ) → i < length rows → a ≡ get_or cs i 0 → r ≡ get_or rows i [] → IsScalar S b → S.sum a b ≡ S.zero → after ≡ vector_sum S left (multiple S b r) → IsLessFirst v i left → IsLessFirst v (i + 1) after
     less_more cs_in rows_in one_each v left after r i a b l is_a is_r b_in e is_after h =

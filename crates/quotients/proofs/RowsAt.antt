@@ -1,6 +1,6 @@
 -- The unit vector of a position, less its residue.
-use Rattle.std.proofs.Common.{◌≡◌, ℕ, ◌<◌, List, get_or, set, sym, ap, ap₂, ◌∙◌, subst}
-use Rattle.std.proofs.lemmas.List.{get_or-replicate, get_or-set_same, get_or-set_other, length-set, length-replicate}
+use Rattle.std.proofs.Common.{◌≡◌, ℕ, ◌<◌, List, get_or, set, map, sym, ap, ap₂, ◌∙◌, subst}
+use Rattle.std.proofs.lemmas.List.{map-set, get_or-replicate, get_or-set_same, get_or-set_other, length-set, length-replicate}
 use Rattle.std.proofs.lemmas.List.Elements.{All-replicate, All-set}
 use Rattle.vector_spaces.proofs.Space.{Field, Space, linear}
 use Rattle.linear_algebra.specs.Scalars.{Scalars, IsScalar, IsField}
@@ -15,6 +15,9 @@ use Rattle.echelon.proofs.Entries.{entry-sum, entry-multiple}
 use Rattle.echelon.proofs.Residue.{element-minus}
 use Rattle.echelon.proofs.Transfers.{entry-scalar}
 use Rattle.quotients.specs.Reductions.{IsRowAt}
+
+pub set_value : {X : Type 0} (f : X → ℕ) (xs : List X) (i : ℕ) (x : X) (z : ℕ) → f x ≡ z → map f (set xs i x) ≡ set (map f xs) i z
+set_value f xs i x z e = map-set f xs i x ∙ ap (set (map f xs) i) e
 
 module _ {K V : Type 0} (f : Field K) (s : Space f V) where
   infixl 65 ◌⊕◌
@@ -57,3 +60,10 @@ module _ (S : Scalars) (F : IsField S) (d : ℕ) (vs : List (List ℕ)) (V : Are
         one = λ k. entry p k ∙ get_or-set_same (zero_vector S d) p S.one 0 (subst (λ n. p < n) (sym (length-replicate d S.zero)) l);
         zero = λ q k n. entry q k ∙ get_or-set_other (zero_vector S d) p q S.one 0 n ∙ get_or-replicate d q S.zero 0 (subst (λ n. q < n) k.vector.length_is k.leads.within);
       }
+
+-- as the call makes it: n is the dimension, e' and r' are what is seen of the unit vector and of its residue, o is one
+pub row_made : (S : Scalars) (F : IsField S) (d : ℕ) (vs : List (List ℕ)) (V : AreVectors S d vs) (p n : ℕ) (e e' r r' u : List ℕ) (o m : ℕ) → n ≡ d → p < n → e ≡ set (zero_vector S n) p S.one → e' ≡ e → IsResidue S d vs e' r → r' ≡ r → IsScalar S m → o ≡ S.one → S.sum o m ≡ S.zero
+    → u ≡ vector_sum S e (multiple S m r') → IsRowAt S d vs p u
+row_made S F d vs V p n e e' r r' u o m is_d l is_e seen_e res seen_r m_in is_o minus is_u =
+    row_is_at S F d vs V p (subst (λ k. p < k) is_d l) e r u m (is_e ∙ ap (λ k. set (zero_vector S k) p S.one) is_d) (subst (λ v. IsResidue S d vs v r) seen_e res) m_in (ap (λ a. S.sum a m) (sym is_o) ∙ minus)
+    (is_u ∙ ap (λ v. vector_sum S e (multiple S m v)) seen_r)

@@ -1,7 +1,7 @@
 -- The walk over the vectors of the second span: what it keeps, and that the common vectors span the meeting.
-use Rattle.std.proofs.Common.{◌≡◌, ℕ, ◌-◌, inl, inr, List, [], ◌∷◌, ◌++◌, length, take, drop, refl, sym, ap, ap₂, ◌∙◌, subst, arith, append-nil, append_assoc, length-append, length-drop, All}
+use Rattle.std.proofs.Common.{◌≡◌, ℕ, ◌+◌, ◌-◌, ◌<◌, ◌≤◌, get_or, take_all, inl, inr, List, [], ◌∷◌, ◌++◌, length, take, drop, refl, sym, ap, ap₂, ◌∙◌, subst, arith, append-nil, append_assoc, length-append, length-drop, All}
 use Rattle.std.specs.Prelude.{◌↔◌}
-use Rattle.std.proofs.lemmas.List.{map-append, take-append-drop, length-take-le}
+use Rattle.std.proofs.lemmas.List.{take_more, map-append, take-append-drop, length-take-le}
 use Rattle.std.proofs.lemmas.List.Elements.{All-nil, All-push, All-append, All-take, All-drop}
 use Rattle.vector_spaces.proofs.Members.{In, In-all, all-In, In-append, In-append_left, In-append_right}
 use Rattle.vector_spaces.proofs.Meets.{meet_within}
@@ -165,51 +165,90 @@ module _ (S : Scalars) (F : IsField S) (us : Matrix) where
               (span_member S F d (common ++ (added ++ w ∷ [])) w both_in (In-append_right w common (added ++ w ∷ []) (In-append_right w added (w ∷ []) (inl refl)))));
         }
 
-    pub walk_old : TakesOld S before w after → IsWalk (ws ++ w ∷ []) after
-    walk_old t =
-        let base = k.base.rows in
-        let added = before.added.rows in
-        let common = before.common.rows in
-        let p = t.part in
-        let added' : after.added.rows ≡ added = rows_of after.added before.added t.added in
-        let common' : after.common.rows ≡ common ++ p ∷ [] = rows_of after.common (with_row before.common p) t.common in
-        let p_in : IsVector S d p = subst (λ n. IsVector S n p) k.basis_width t.vector in
-        let first : length before.basis.rows - length added ≡ length base = (let e = ap length k.basis_rows in let l = length-append base added in omega arith) in
-        let n = combination S d (drop (length base) t.coefficients) added in
-        let sum : w ≡ vector_sum S p n = t.sum ∙ ap₂ (λ m i. vector_sum S p (combination S m (drop i t.coefficients) added)) k.basis_width first in
-        let combine : Combines S d (base ++ added) t.coefficients w = subst (λ vs. Combines S d vs t.coefficients w) k.basis_rows (subst (λ m. Combines S m before.basis.rows t.coefficients w) k.basis_width t.combine) in
-        let parts = split_old S F d base added t.coefficients w p base_vectors added_vectors combine p_in sum in
-        let n_in : IsVector S d n = span_vector S F d added n added_vectors parts.1 in
-        let n_more : InSpan S d (ws ++ w ∷ []) n = span_through S F d added (ws ++ w ∷ []) n added_vectors more n_in (weaker added added_vectors k.added_in) parts.1 in
-        let p_more : InSpan S d (ws ++ w ∷ []) p = difference_in S F d (ws ++ w ∷ []) w p n more p_in n_in sum w_more n_more in
-        let pushed : AreVectors S d (common ++ p ∷ []) = All-push (IsVector S d) common p common_vectors p_in in
-        let both_in : AreVectors S d ((common ++ p ∷ []) ++ added) = All-append (IsVector S d) (common ++ p ∷ []) added pushed added_vectors in
-        let members : (v : List ℕ) → In v (common ++ added) → In v ((common ++ p ∷ []) ++ added) = λ v i. elim (In-append v common added i) [
-          | inl j ↦ In-append_left v (common ++ p ∷ []) added (In-append_left v common (p ∷ []) j)
-          | inr j ↦ In-append_right v (common ++ p ∷ []) added j
-        ] in
-        let w_spanned : InSpan S d ((common ++ p ∷ []) ++ added) w = subst (InSpan S d ((common ++ p ∷ []) ++ added)) (sym sum) (span_sum S F d ((common ++ p ∷ []) ++ added) p n both_in p_in n_in
-        (span_member S F d ((common ++ p ∷ []) ++ added) p both_in (In-append_left p (common ++ p ∷ []) added (In-append_right p common (p ∷ []) (inl refl))))
-        (span_append_right S F d (common ++ p ∷ []) added n both_in n_in parts.1)) in
-        record {
-          base = k.base;
-          is_basis = k.is_basis;
-          basis_width = width_of after.basis before.basis t.basis ∙ k.basis_width;
-          basis_rows = rows_of after.basis before.basis t.basis ∙ k.basis_rows ∙ ap (λ vs. base ++ vs) (sym added');
-          added_width = width_of after.added before.added t.added ∙ k.added_width;
-          common_width = width_of after.common (with_row before.common p) t.common ∙ k.common_width;
-          seen = more;
-          independent = subst (λ vs. IsIndependent S d (base ++ vs)) (sym added') k.independent;
-          in_first = subst (All (InSpan S d base)) (sym common') (All-push (InSpan S d base) common p k.in_first parts.0);
-          in_second = subst (All (InSpan S d (ws ++ w ∷ []))) (sym common') (All-push (InSpan S d (ws ++ w ∷ [])) common p (weaker common common_vectors k.in_second) p_more);
-          added_in = subst (All (InSpan S d (ws ++ w ∷ []))) (sym added') (weaker added added_vectors k.added_in);
-          spanned = subst (λ (t : List (List ℕ) × List (List ℕ)). All (InSpan S d (t.0 ++ t.1)) (ws ++ w ∷ [])) (ap₂ (λ x y. (x, y)) (sym common') (sym added'))
-              (All-push (InSpan S d ((common ++ p ∷ []) ++ added)) ws w (all_more S F d (common ++ added) ((common ++ p ∷ []) ++ added) ws both_in k.seen members k.spanned) w_spanned);
-        }
+    module _ (t : TakesOld S before w after) where
+      -- the part of w in the span of the added vectors
+      abbrev rest : List ℕ
+      rest = combination S d (drop (length k.base.rows) t.coefficients) before.added.rows
+
+      abbrev common_more : List (List ℕ)
+      common_more = before.common.rows ++ t.part ∷ []
+
+      added_same : after.added.rows ≡ before.added.rows
+      added_same = rows_of after.added before.added t.added
+
+      common_is : after.common.rows ≡ common_more
+      common_is = rows_of after.common (with_row before.common t.part) t.common
+
+      part_vector : IsVector S d t.part
+      part_vector = subst (λ n. IsVector S n t.part) k.basis_width t.vector
+
+      base_long : length before.basis.rows - length before.added.rows ≡ length k.base.rows
+      base_long = let e = ap length k.basis_rows in let l = length-append k.base.rows before.added.rows in omega arith
+
+      sum_is : w ≡ vector_sum S t.part rest
+      sum_is = t.sum ∙ ap₂ (λ m i. vector_sum S t.part (combination S m (drop i t.coefficients) before.added.rows)) k.basis_width base_long
+
+      combine_is : Combines S d (k.base.rows ++ before.added.rows) t.coefficients w
+      combine_is = subst (λ vs. Combines S d vs t.coefficients w) k.basis_rows (subst (λ m. Combines S m before.basis.rows t.coefficients w) k.basis_width t.combine)
+
+      parts : InSpan S d k.base.rows t.part × InSpan S d before.added.rows rest
+      parts = split_old S F d k.base.rows before.added.rows t.coefficients w t.part base_vectors added_vectors combine_is part_vector sum_is
+
+      rest_vector : IsVector S d rest
+      rest_vector = span_vector S F d before.added.rows rest added_vectors parts.1
+
+      part_more : InSpan S d (ws ++ w ∷ []) t.part
+      part_more = difference_in S F d (ws ++ w ∷ []) w t.part rest more part_vector rest_vector sum_is w_more
+          (span_through S F d before.added.rows (ws ++ w ∷ []) rest added_vectors more rest_vector (weaker before.added.rows added_vectors k.added_in) parts.1)
+
+      common_more_vectors : AreVectors S d common_more
+      common_more_vectors = All-push (IsVector S d) before.common.rows t.part common_vectors part_vector
+
+      both_vectors : AreVectors S d (common_more ++ before.added.rows)
+      both_vectors = All-append (IsVector S d) common_more before.added.rows common_more_vectors added_vectors
+
+      members_more : (v : List ℕ) → In v (before.common.rows ++ before.added.rows) → In v (common_more ++ before.added.rows)
+      members_more v i = elim (In-append v before.common.rows before.added.rows i) [
+        | inl j ↦ In-append_left v common_more before.added.rows (In-append_left v before.common.rows (t.part ∷ []) j)
+        | inr j ↦ In-append_right v common_more before.added.rows j
+      ]
+
+      sum_spanned : InSpan S d (common_more ++ before.added.rows) (vector_sum S t.part rest)
+      sum_spanned = span_sum S F d (common_more ++ before.added.rows) t.part rest both_vectors part_vector rest_vector
+          (span_member S F d (common_more ++ before.added.rows) t.part both_vectors (In-append_left t.part common_more before.added.rows (In-append_right t.part before.common.rows (t.part ∷ []) (inl refl))))
+          (span_append_right S F d common_more before.added.rows rest both_vectors rest_vector parts.1)
+
+      all_spanned : All (InSpan S d (common_more ++ before.added.rows)) (ws ++ w ∷ [])
+      all_spanned = All-push (InSpan S d (common_more ++ before.added.rows)) ws w
+          (all_more S F d (before.common.rows ++ before.added.rows) (common_more ++ before.added.rows) ws both_vectors k.seen members_more k.spanned)
+          (subst (InSpan S d (common_more ++ before.added.rows)) (sym sum_is) sum_spanned)
+
+      spanned_after : All (InSpan S d (after.common.rows ++ after.added.rows)) (ws ++ w ∷ [])
+      spanned_after = subst (λ vs. All (InSpan S d vs) (ws ++ w ∷ [])) (sym (ap₂ (λ x y. x ++ y) common_is added_same)) all_spanned
+
+      pub walk_old : IsWalk (ws ++ w ∷ []) after
+      walk_old = record {
+        base = k.base;
+        is_basis = k.is_basis;
+        basis_width = width_of after.basis before.basis t.basis ∙ k.basis_width;
+        basis_rows = rows_of after.basis before.basis t.basis ∙ k.basis_rows ∙ ap (λ vs. k.base.rows ++ vs) (sym added_same);
+        added_width = width_of after.added before.added t.added ∙ k.added_width;
+        common_width = width_of after.common (with_row before.common t.part) t.common ∙ k.common_width;
+        seen = more;
+        independent = subst (λ vs. IsIndependent S d (k.base.rows ++ vs)) (sym added_same) k.independent;
+        in_first = subst (All (InSpan S d k.base.rows)) (sym common_is) (All-push (InSpan S d k.base.rows) before.common.rows t.part k.in_first parts.0);
+        in_second = subst (All (InSpan S d (ws ++ w ∷ []))) (sym common_is) (All-push (InSpan S d (ws ++ w ∷ [])) before.common.rows t.part (weaker before.common.rows common_vectors k.in_second) part_more);
+        added_in = subst (All (InSpan S d (ws ++ w ∷ []))) (sym added_same) (weaker before.added.rows added_vectors k.added_in);
+        spanned = spanned_after;
+      }
 
     pub walk_more : Takes S before w after → IsWalk (ws ++ w ∷ []) after
     walk_more (inl t) = walk_new t
     walk_more (inr t) = walk_old t
+
+  -- one more of the vectors
+  pub walk_next : {X : Type 0} (ws : List (List ℕ)) (before after : Walk X) (i : ℕ) (w : List ℕ) → i < length ws → w ≡ get_or ws i [] → IsVector S d w → IsWalk (take i ws) before → Takes S before w after → IsWalk (take (i + 1) ws) after
+  walk_next ws before after i w l is w_in k t = subst (λ vs. IsWalk vs after) (ap (λ x. take i ws ++ x ∷ []) is ∙ sym (take_more ws i [] l)) (walk_more (take i ws) before after w k w_in t)
 
   -- at the end of the walk
   pub walk_whole : {X : Type 0} (ws : Matrix) (walk : Walk X) → IsWalk ws.rows walk → SpansMeeting S us ws walk.common
@@ -229,6 +268,10 @@ module _ (S : Scalars) (F : IsField S) (us : Matrix) where
           λ h. meet S F d k.base.rows walk.added.rows walk.common.rows ws.rows x b.vectors_in added_in common_in k.seen k.independent k.in_first k.spanned (span_through S F d us.rows k.base.rows x us_in b.vectors_in (span_vector S F d us.rows x us_in h.0) b.spans h.0) h.1,
         );
       }
+
+-- after the last of the vectors
+pub walk_ended : (S : Scalars) (F : IsField S) (us : Matrix) {X : Type 0} (ws : Matrix) (walk : Walk X) (i : ℕ) → length ws.rows ≤ i → IsWalk S F us (take i ws.rows) walk → SpansMeeting S us ws walk.common
+walk_ended S F us ws walk i l k = walk_whole S F us ws walk (subst (λ vs. IsWalk S F us vs walk) (take_all i ws.rows l) k)
 
 pub meets_as : (S : Scalars) (dimension : ℕ) (us ws vectors us' ws' : Matrix) → dimension ≡ us.width → us ≡ us' → ws ≡ ws' → SpansMeeting S us ws vectors → (s : Matrix) → HasElements S s (InSpan S dimension vectors.rows) → HasElements S s (λ x. InSpan S us'.width us'.rows x × InSpan S us'.width ws'.rows x)
 meets_as S dimension us ws vectors us' ws' w e e' m s h = subst (λ (t : Matrix × Matrix). HasElements S s (λ x. InSpan S t.0.width t.0.rows x × InSpan S t.0.width t.1.rows x)) (ap₂ (λ x y. (x, y)) e e')

@@ -1,7 +1,7 @@
-use Rattle.std.proofs.Common.{◌≡◌, ◌+◌, MatchOption, subst, sym, ap, ◌∙◌}
+use Rattle.std.proofs.Common.{◌≡◌, ◌+◌, MatchOption, subst}
 use Rattle.matching_state.specs.Places.{IsExposed}
 use Rattle.overlap.specs.Candidates.{IsCandidate, AreCandidates}
-use Rattle.overlap.proofs.CandidateTies.{line_passed, line_kept}
+use Rattle.overlap.proofs.CandidateTies.{line_written, line_left}
 use Rattle.overlap.proofs.candidates.candidates.Goals as goal
 use Rattle.overlap.proofs.candidates.candidates.Goals.{in-Some+in_ok-push, in_default}
 
@@ -11,15 +11,14 @@ loop-line-preserved g c =
     let p = c.args.state.now.problem in
     let M = c.args.state.now.set in
     let n = c.loop-line.line in
-    let xs = c.loop-line.found.items in
-    elim c.match-branch-2.branch as (λ _. AreCandidates S p M (n + 1) c.match-branch-2.found.items) [
+    let before = c.loop-line.found in
+    let after = c.match-branch-2.found in
+    elim c.match-branch-2.branch as (λ _. AreCandidates S p M (n + 1) after.items) [
       | in-Some+in_ok-push w ↦
           let k = subst (λ found. MatchOption found (¬ (IsExposed S p M n)) (λ x. (x.line ≡ n) × IsCandidate S p M x)) w.in-Some.is
           c.in_ok-candidate.ensures in
-          line_kept S p M n xs c.match-branch-2.found.items w.in-Some.candidate
-          (ap (λ v. v.items) w.found-is ∙ w.in_ok-push.ensures.items) c.loop-line.invariant k.0 k.1
-      | in_default w ↦ subst (λ v. AreCandidates S p M (n + 1) v.items) (sym w.found-is)
-          (line_passed S p M n xs c.loop-line.invariant
+          line_written S p M n before.items w.push.new.self after w.in-Some.candidate w.found-is w.in_ok-push.ensures.items c.loop-line.invariant k.0 k.1
+      | in_default w ↦ line_left S p M n before after w.found-is c.loop-line.invariant
           (subst (λ found. MatchOption found (¬ (IsExposed S p M n)) (λ x. (x.line ≡ n) × IsCandidate S p M x)) w.in_default.is
-          c.in_ok-candidate.ensures))
+          c.in_ok-candidate.ensures)
     ]

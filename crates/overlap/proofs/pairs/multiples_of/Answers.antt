@@ -1,7 +1,6 @@
-use Rattle.std.proofs.Common.{List, ℕ, ◌≡◌, [], ◌∷◌, ◌++◌, length, map, refl, ap, ◌∙◌}
+use Rattle.std.proofs.Common.{List, ℕ, length, map, refl}
 use Rattle.std.proofs.lemmas.Result.{IfOk-weaker}
 use Rattle.field_core.proofs.Values.{vector_of_values}
-use Rattle.field_core.specs.Matrix.{Matrix}
 use Rattle.overlap.proofs.Multiples.{basis_has_span}
 use Rattle.overlap.proofs.pairs.multiples_of.Goals as goal
 
@@ -11,8 +10,6 @@ returns g c =
     let f = g.F.Field.number in
     let d = length c.args.v.now in
     let v : List ℕ = map f c.args.v.now in
-    let is : c.push.new.self ≡ record { width = d; rows = v ∷ [] } = c.in_ok-push.ensures.ok
-    ∙ ap (λ (m : Matrix). let k : Matrix = record { width = m.width; rows = m.rows ++ v ∷ [] } in k) c.new-rows.ensures in
     IfOk-weaker c.basis_of.result _ _
-    (λ basis b. basis_has_span S g.met.F.Field.lawful d v c.push.new.self basis
-    (vector_of_values S f g.met.F.Field.is_scalar c.args.v.now d refl) is b) c.basis_of.ensures
+    (λ basis b. basis_has_span S g.met.F.Field.lawful d v c.new-rows.result c.push.new.self basis
+    (vector_of_values S f g.met.F.Field.is_scalar c.args.v.now d refl) c.new-rows.ensures c.in_ok-push.ensures.ok b) c.basis_of.ensures

@@ -1,8 +1,7 @@
-use Rattle.std.proofs.Common.{◌≡◌, ℕ, List, map, length, sym, ap, ◌∙◌, subst, arith, ◌/◌}
+use Rattle.std.proofs.Common.{◌≡◌, ℕ, List, map, length, arith}
 use Rattle.std.proofs.lemmas.List.{length-map}
 use Rattle.std.proofs.lemmas.Result.{IfOk-weaker}
-use Rattle.overlap.proofs.KeptPairs.{kept_pushed, kept_all}
-use Rattle.overlap.specs.Pairs.{AreKept}
+use Rattle.overlap.proofs.KeptPairs.{kept_pushed, kept_row}
 use Rattle.overlap.proofs.point.kept_at_ratio.Goals as goal
 
 pub loop-i-preserved : goal.loop-i-preserved
@@ -20,5 +19,4 @@ returns g c =
     let ds : List ℕ = map f c.args.second.now in
     let e : length cs ≡ length c.args.first.now = length-map c.args.first.now f in
     IfOk-weaker c.copy_of.result _ _
-    (λ row is. subst (AreKept S (f c.args.factor) cs ds) (sym (is ∙ ap (map f) c.deref.ensures.value))
-    (kept_all S (f c.args.factor) cs ds c.loop-i.i (map f c.loop-i.kept.items) (omega arith) c.loop-i.invariant)) c.copy_of.ensures
+    (λ row is. kept_row S (f c.args.factor) cs ds f c.loop-i.i c.loop-i.kept.items c.deref.result.now row (omega arith) c.deref.ensures.value is c.loop-i.invariant) c.copy_of.ensures

@@ -9,8 +9,8 @@ at-requires-clause-overlap g c =
     let S = g.F.Field.scalars in
     let p = c.args.state.now.problem in
     let xs = c.in_ok-exposed.exposed.items in
-    let P = subst (IsProblem S) c.problem-problem.ensures c.len-lines.ensures.problem in
-    let told = subst (λ ys. HaveOverlap S ys c.in-Some.first c.in-Some.second) c.deref.ensures.value
+    let P = subst (IsProblem S) {x = c.problem-problem.result.now} {y = p} c.problem-problem.ensures c.len-lines.ensures.problem in
+    let told = subst (λ ys. HaveOverlap S ys c.in-Some.first c.in-Some.second) {x = c.deref.result.now} {y = xs} c.deref.ensures.value
     (subst (λ found. MatchOption found (All (λ x. All (λ y. ¬ (DoOverlap S (length x.residue) x y)) c.deref.result.now) c.deref.result.now)
     (λ pair. HaveOverlap S c.deref.result.now pair.0 pair.1)) c.in-Some.is c.in_ok-first.ensures) in
     (pair_is_overlap S g.met.F.Field.lawful p P c.args.state.now.set c.set-set.ensures.independent xs c.in_ok-exposed.ensures c.in-Some.first
@@ -21,8 +21,8 @@ returns g c =
     let S = g.F.Field.scalars in
     let p = c.args.state.now.problem in
     let xs = c.in_ok-exposed.exposed.items in
-    let P = subst (IsProblem S) c.problem-problem.ensures c.len-lines.ensures.problem in
-    let none = subst (λ ys. All (λ x. All (λ y. ¬ (DoOverlap S (length x.residue) x y)) ys) ys) c.deref.ensures.value
+    let P = subst (IsProblem S) {x = c.problem-problem.result.now} {y = p} c.problem-problem.ensures c.len-lines.ensures.problem in
+    let none = subst (λ ys. All (λ x. All (λ y. ¬ (DoOverlap S (length x.residue) x y)) ys) ys) {x = c.deref.result.now} {y = xs} c.deref.ensures.value
     (subst (λ found. MatchOption found (All (λ x. All (λ y. ¬ (DoOverlap S (length x.residue) x y)) c.deref.result.now) c.deref.result.now)
     (λ pair. HaveOverlap S c.deref.result.now pair.0 pair.1)) c.in-None.is c.in_ok-first.ensures) in
     no_pair_no_overlap S g.met.F.Field.lawful p P c.args.state.now.set c.set-set.ensures.independent xs c.in_ok-exposed.ensures none

@@ -1,7 +1,7 @@
-use Rattle.std.proofs.Common.{map, sym, ap, ◌∙◌, arith, subst}
+use Rattle.std.proofs.Common.{map, sym, ap, ◌∙◌, arith}
 use Rattle.std.proofs.lemmas.List.{get_or-map, length-map}
 use Rattle.field_core.proofs.Values.{numbers_of_values, vector_of_values}
-use Rattle.quotients.proofs.LessCombination.{IsLessFirst, less_none, less_more, less_all}
+use Rattle.quotients.proofs.LessCombination.{less_none, less_more, less_all}
 use Rattle.quotients.proofs.meeting.less_combination.Goals as goal
 
 pub loop-i-init : goal.loop-i-init
@@ -10,8 +10,7 @@ loop-i-init g c =
     let f = g.F.Field.number in
     let rows = c.args.rows.now in
     let v = c.args.v.now in
-    subst (IsLessFirst S g.met.F.Field.lawful rows.width (map f c.args.coefficients.now) rows.rows (map f v) 0) (sym c.in_ok-left.ensures)
-    (less_none S g.met.F.Field.lawful rows.width (map f c.args.coefficients.now) rows.rows (map f v) (vector_of_values S f g.met.F.Field.is_scalar v rows.width c.requires.width))
+    less_none S g.met.F.Field.lawful rows.width (map f c.args.coefficients.now) rows.rows (map f v) c.in_ok-left.left (vector_of_values S f g.met.F.Field.is_scalar v rows.width c.requires.width) c.in_ok-left.ensures
 
 pub loop-i-preserved : goal.loop-i-preserved
 loop-i-preserved g c =

@@ -6,6 +6,6 @@ pub returns : goal.returns
 returns g c =
     let f = g.F.Field.number in
     let entries = c.self.inside.entries in (
-      (refl, λ ws. written_back f entries.len entries.items ws c.args.self.now entries.ok.0 c.self.view_is),
+      (refl {a = c.as_mut_slice.result.ghost_name}, λ ws. written_back f entries.len entries.items ws c.args.self.now entries.ok.0 c.self.view_is),
       record { writes_back = tt; value = ap (map f) c.as_mut_slice.ensures.value ∙ c.self.view_is; whole = λ ws e. refill_same _ _ ws e },
     )

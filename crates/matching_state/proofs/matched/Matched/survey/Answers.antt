@@ -1,7 +1,7 @@
-use Rattle.std.proofs.Common.{subst, sym, ap, ◌∙◌, arith, ◌+◌}
+use Rattle.std.proofs.Common.{subst, arith, ◌+◌}
 use Rattle.matching_state.specs.Exposures.{IsFound}
 use Rattle.matching_state.specs.Surveys.{AreExposed}
-use Rattle.matching_state.proofs.Surveys.{line_passed, line_kept}
+use Rattle.matching_state.proofs.Surveys.{line_written, line_left}
 use Rattle.matching_state.proofs.matched.Matched.survey.Goals as goal
 use Rattle.matching_state.proofs.matched.Matched.survey.Goals.{in-Exposed+in_ok-push-in-Exposed, in-Inside, in-Single}
 
@@ -11,9 +11,10 @@ loop-line-preserved g c =
     let p = c.args.self.now.problem in
     let M = c.args.self.now.set in
     let n = c.loop-line.line in
-    let xs = c.loop-line.exposed.items in
-    elim c.match-branch-2.branch as (λ _. AreExposed S p M (n + 1) c.match-branch-2.exposed.items) [
-      | in-Exposed+in_ok-push-in-Exposed w ↦ let f = subst (IsFound S p M n) w.in-Exposed.is c.in_ok-found.ensures in line_kept S p M n xs c.match-branch-2.exposed.items w.in-Exposed.exposure (ap (λ v. v.items) w.exposed-is ∙ w.in_ok-push-in-Exposed.ensures.items) c.loop-line.invariant f.0 f.1
-      | in-Inside w ↦ let f = subst (IsFound S p M n) w.in-Inside.is c.in_ok-found.ensures in subst (λ v. AreExposed S p M (n + 1) v.items) (sym w.exposed-is) (line_passed S p M n xs c.loop-line.invariant (λ e. omega arith) (λ e. let k = e.beside in omega arith))
-      | in-Single w ↦ let f = subst (IsFound S p M n) w.in-Single.is c.in_ok-found.ensures in subst (λ v. AreExposed S p M (n + 1) v.items) (sym w.exposed-is) (line_passed S p M n xs c.loop-line.invariant (λ e. let k = f.0 in omega arith) (λ e. let k = f.1 in let o = e.own in omega arith))
+    let before = c.loop-line.exposed in
+    let after = c.match-branch-2.exposed in
+    elim c.match-branch-2.branch as (λ _. AreExposed S p M (n + 1) after.items) [
+      | in-Exposed+in_ok-push-in-Exposed w ↦ let f = subst (IsFound S p M n) w.in-Exposed.is c.in_ok-found.ensures in line_written S p M n before.items w.push.new.self after w.in-Exposed.exposure w.exposed-is w.in_ok-push-in-Exposed.ensures.items c.loop-line.invariant f.0 f.1
+      | in-Inside w ↦ let f = subst (IsFound S p M n) w.in-Inside.is c.in_ok-found.ensures in line_left S p M n before after w.exposed-is c.loop-line.invariant (λ e. omega arith) (λ e. let k = e.beside in omega arith)
+      | in-Single w ↦ let f = subst (IsFound S p M n) w.in-Single.is c.in_ok-found.ensures in line_left S p M n before after w.exposed-is c.loop-line.invariant (λ e. let k = f.0 in omega arith) (λ e. let k = f.1 in let o = e.own in omega arith)
     ]
