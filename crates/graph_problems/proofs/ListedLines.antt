@@ -1,8 +1,11 @@
 -- Problems whose lines are those of the members of a list, in order.
 use Rattle.std.proofs.Common.{◌≡◌, ℕ, ◌<◌, List, [], length, get_or, map, ap, ◌∙◌, subst}
 use Rattle.std.proofs.lemmas.List.{length-map, get_or-map}
-use Rattle.vector_spaces.proofs.Members.{In-get_or}
-use Rattle.parity_lines.specs.Problems.{ParityProblem, line_at}
+use Rattle.std.proofs.lemmas.List.Elements.{All-map}
+use Rattle.vector_spaces.proofs.Members.{In, In-get_or, all-In}
+use Rattle.linear_algebra.specs.Scalars.{Scalars}
+use Rattle.linear_algebra.specs.Vectors.{IsVector}
+use Rattle.parity_lines.specs.Problems.{ParityProblem, IsProblem, line_at}
 use Rattle.graph_theory.specs.Counts.{InRange}
 use Rattle.graph_theory.specs.Walks.{edge_at}
 use Rattle.graph_theory.proofs.Shuffles.{range_in}
@@ -13,6 +16,10 @@ module _ {X : Type 0} (p : ParityProblem) (line : X → List ℕ × List ℕ) (x
 
   pub line_of : (i : ℕ) (x : X) → i < length p.lines → line_at p i ≡ line (get_or xs i x)
   line_of i x l = ap (λ z. get_or z i ([], [])) lines ∙ get_or-map line xs i x ([], []) (subst (λ z. i < z) as_many l)
+
+pub listed_problem : {X : Type 0} (S : Scalars) (d : ℕ) (line : X → List ℕ × List ℕ) (xs : List X)
+    → ((x : X) → In x xs → IsVector S d (line x).0 × IsVector S d (line x).1) → IsProblem S (record { dimension = d; lines = map line xs })
+listed_problem S d line xs h = All-map (λ (l : List ℕ × List ℕ). IsVector S d l.0 × IsVector S d l.1) line xs (all-In _ xs h)
 
 -- the ends of an edge are vertices
 pub ends_below : (n : ℕ) (E : List (ℕ × ℕ)) → InRange n E → (i : ℕ) → i < length E → ((edge_at E i).0 < n) × ((edge_at E i).1 < n)
