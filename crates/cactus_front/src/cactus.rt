@@ -1,6 +1,6 @@
 //! From an independent set of lines to a triangle cactus.
 
-ghost use Rattle.std.specs.Prelude.{◌≡◌, IfOk, length};
+ghost use Rattle.std.specs.Prelude.{◌≡◌, ◌<◌, [], All, IfOk, length, map, slice_index_or};
 ghost use Rattle.cactus_front.specs.CactusLists.{AreCorners, OfCactusProblem};
 ghost use Rattle.graph_theory.specs.Cacti.{IsCactus, IsLargestCactus};
 ghost use Rattle.parity_lines.specs.LineSets.{IsIndependentSet, IsLargest};
@@ -20,11 +20,19 @@ pub fn from_set(alloc: Global, graph: &Graph, set: &LineSet) -> Result<VertexLis
         → IfOk result (AreCorners (IsLargestCactus graph.now.ends)) }
 {
     let triangles = graph.triangles(alloc)?;
-    let mut cactus = VertexLists::new(alloc);
+    chosen(alloc, &triangles, set)
+}
+
+/// The lists at the positions of the set.
+fn chosen(alloc: Global, lists: &VertexLists, set: &LineSet) -> Result<VertexLists, AllocError>
+    requires { All (λ i. i < length lists.now) set.now }
+    ensures { IfOk result (λ found. found ≡ map (λ i. slice_index_or lists.now i []) set.now) }
+{
+    let mut found = VertexLists::new(alloc);
     for i in 0..set.len() {
-        cactus.push(copy_of(alloc, triangles.at(set.at(i)))?)?;
+        found.push(copy_of(alloc, lists.at(set.at(i)))?)?;
     }
-    Ok(cactus)
+    Ok(found)
 }
 
 /// The same list.

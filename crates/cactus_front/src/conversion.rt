@@ -1,13 +1,13 @@
 //! From a graph to the parity problem of its triangles.
 
-ghost use Rattle.std.specs.Prelude.{◌≡◌, ◌++◌, [], ◌∷◌, IfOk, OnOk, length};
+ghost use Rattle.std.specs.Prelude.{◌≡◌, ◌++◌, [], ◌∷◌, All, IfOk, OnOk, length, map};
 ghost use Rattle.cactus_front.specs.CactusLists.{triple_of};
-ghost use Rattle.graph_problems.specs.GraphLines.{triangle_line, unit_vector, IsCactusProblem};
+ghost use Rattle.graph_problems.specs.GraphLines.{triangle_line, triangle_problem, unit_vector, IsCactusProblem};
 ghost use Rattle.linear_algebra.specs.Vectors.{vector_sum};
 ghost use Rattle.small_fields.specs.ScalarsOf.{scalars_of};
 
 use field_core::{Field, Row};
-use graph_core::{Graph, VertexList};
+use graph_core::{Graph, VertexList, VertexLists};
 use graph_problems::unit_vector;
 use parity_lines::Problem;
 use small_fields::F2;
@@ -26,7 +26,15 @@ fn problem_over<F: Field>(alloc: Global, graph: &Graph) -> Result<Problem<F>, Al
     ensures { IfOk result (IsCactusProblem F.scalars (length graph.now.names) graph.now.ends) }
 {
     let triangles = graph.triangles(alloc)?;
-    let mut problem = Problem::new(alloc, graph.vertices());
+    problem_of(alloc, graph.vertices(), &triangles)
+}
+
+/// The problem of the lines of triangles.
+fn problem_of<F: Field>(alloc: Global, dimension: usize, triangles: &VertexLists) -> Result<Problem<F>, AllocError>
+    requires { All (λ t. length t ≡ 3) triangles.now }
+    ensures { IfOk result (λ p. p ≡ triangle_problem F.scalars dimension (map triple_of triangles.now)) }
+{
+    let mut problem = Problem::new(alloc, dimension);
     for i in 0..triangles.len() {
         push_triangle(alloc, &mut problem, triangles.at(i))?;
     }
