@@ -1,5 +1,6 @@
 -- Sums and multiples of vectors are those of their tuples.
-use Rattle.std.proofs.Common.{◌≡◌, ℕ, List, sym, ap, ap₂, ◌∙◌}
+use Rattle.std.proofs.Common.{◌≡◌, ℕ, List, [], ◌∷◌, All, refl, sym, ap, ap₂, ◌∙◌}
+use Rattle.std.proofs.lemmas.List.Elements.{All-head, All-tail}
 use Rattle.vector_spaces.proofs.Space.{linear}
 use Rattle.linear_algebra.specs.Scalars.{Scalars, IsScalar, IsField}
 use Rattle.linear_algebra.specs.Vectors.{IsVector, zero_vector, vector_sum, multiple}
@@ -42,3 +43,10 @@ module _ (S : Scalars) (F : IsField S) (d : ℕ) where
 
   pub vector_sum-zero : (v : List ℕ) → IsVector S d v → vector_sum S v (zero_vector S d) ≡ v
   vector_sum-zero v h = sym (list-sum v (zero_vector S d) h zero-vector) ∙ ap (list S d) (simp (tuple-zero, linear)) ∙ list-tuple S F d v h
+
+-- one times a vector is the vector
+pub multiple-one : (S : Scalars) → IsField S → (v : List ℕ) → All (IsScalar S) v → multiple S S.one v ≡ v
+multiple-one S F [] h = refl
+multiple-one S F (a ∷ v) h = ap₂ (λ b w. b ∷ w)
+    (let l = All-head (IsScalar S) a v h in F.product_comm S.one a F.one_in l ∙ F.product-one a l)
+    (multiple-one S F v (All-tail (IsScalar S) a v h))
