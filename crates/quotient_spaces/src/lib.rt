@@ -1,5 +1,6 @@
 //! Vectors modulo a point, as pure mathematics: the vectors of length d + 1 modulo the multiples of a vector p
-//! that isn't zero are the vectors of length d.
+//! that isn't zero are the vectors of length d. It stands apart from `linear_algebra`, since only what divides by
+//! a point cites it: `quotients`, `families`, `problem_quotients` and `classes`.
 //!
 //! At a coordinate i where p isn't zero, the projection of v is v plus the multiple of p that clears coordinate i,
 //! without that coordinate, and a vector of length d is lifted by putting zero in there.
