@@ -1,0 +1,2 @@
+pub mod CactusLists
+pub mod ChosenCactus

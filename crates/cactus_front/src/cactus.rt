@@ -19,6 +19,7 @@ pub fn from_set(alloc: Global, graph: &Graph, set: &LineSet) -> Result<VertexLis
     ensures largest { OfCactusProblem (scalars_of 2) (length graph.now.names) graph.now.ends (λ p. IsLargest (scalars_of 2) p set.now)
         → IfOk result (AreCorners (IsLargestCactus graph.now.ends)) }
 {
+    let _edges = graph.edges();
     let triangles = graph.triangles(alloc)?;
     chosen(alloc, &triangles, set)
 }

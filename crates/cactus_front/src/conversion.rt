@@ -30,7 +30,11 @@ fn problem_over<F: Field>(alloc: Global, graph: &Graph) -> Result<Problem<F>, Al
 }
 
 /// The problem of the lines of triangles.
-fn problem_of<F: Field>(alloc: Global, dimension: usize, triangles: &VertexLists) -> Result<Problem<F>, AllocError>
+fn problem_of<F: Field>(
+    alloc: Global,
+    dimension: usize,
+    triangles: &VertexLists,
+) -> Result<Problem<F>, AllocError>
     requires { All (λ t. length t ≡ 3) triangles.now }
     ensures { IfOk result (λ p. p ≡ triangle_problem F.scalars dimension (map triple_of triangles.now)) }
 {
@@ -42,7 +46,11 @@ fn problem_of<F: Field>(alloc: Global, dimension: usize, triangles: &VertexLists
 }
 
 /// Puts the line of a triangle last.
-fn push_triangle<F: Field>(alloc: Global, problem: &mut Problem<F>, triangle: &VertexList) -> Result<(), AllocError>
+fn push_triangle<F: Field>(
+    alloc: Global,
+    problem: &mut Problem<F>,
+    triangle: &VertexList,
+) -> Result<(), AllocError>
     requires { length triangle.now ≡ 3 }
     ensures { OnOk result (problem.new ≡ record problem.old { lines = problem.old.lines ++ triangle_line F.scalars problem.old.dimension (triple_of triangle.now) ∷ [] }) }
 {
@@ -53,7 +61,12 @@ fn push_triangle<F: Field>(alloc: Global, problem: &mut Problem<F>, triangle: &V
 }
 
 /// The sum of the unit vectors of two places.
-fn sum_of_units<F: Field>(alloc: Global, dimension: usize, a: usize, b: usize) -> Result<Row<F>, AllocError>
+fn sum_of_units<F: Field>(
+    alloc: Global,
+    dimension: usize,
+    a: usize,
+    b: usize,
+) -> Result<Row<F>, AllocError>
     ensures { IfOk result (λ v. v ≡ vector_sum F.scalars (unit_vector F.scalars dimension a) (unit_vector F.scalars dimension b)) }
 {
     let mut sum = Row::copy_of(alloc, &unit_vector(alloc, dimension, a)?)?;

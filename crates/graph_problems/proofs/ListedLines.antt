@@ -26,7 +26,7 @@ pub one_line_more : {X : Type 0} (d : ℕ) (line : X → List ℕ × List ℕ) (
     → i < length xs → p ≡ record { dimension = d; lines = map line (take i xs) } → q ≡ record p { lines = p.lines ++ new ∷ [] }
     → new ≡ line (get_or xs i x) → q ≡ record { dimension = d; lines = map line (take (i + 1) xs) }
 one_line_more d line xs i x p q new l h k e = k ∙ ap₂ (λ (r : ParityProblem) n. record r { lines = r.lines ++ n ∷ [] }) h e
-    ∙ ap (λ ls. record { dimension = d; lines = ls }) (sym (ap (map line) (take_more xs i x l) ∙ map-append))
+    ∙ ap (λ ls. record { dimension = d; lines = ls }) (sym (ap (map line) (take_more xs i x l) ∙ map-append line (take i xs) (get_or xs i x ∷ [])))
 
 -- the ends of an edge are vertices
 pub ends_below : (n : ℕ) (E : List (ℕ × ℕ)) → InRange n E → (i : ℕ) → i < length E → ((edge_at E i).0 < n) × ((edge_at E i).1 < n)

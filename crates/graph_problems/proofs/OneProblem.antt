@@ -3,7 +3,7 @@ use Rattle.std.proofs.Common.{◌≡◌, ℕ, inl, inr, List, [], ◌∷◌, ref
 use Rattle.vector_spaces.proofs.Members.{In}
 use Rattle.linear_algebra.specs.Scalars.{Scalars}
 use Rattle.parity_lines.specs.Problems.{ParityProblem}
-use Rattle.graph_theory.specs.Cacti.{IsBefore, IsLexicographic, AreTriangles}
+use Rattle.graph_theory.specs.Cacti.{IsBefore, IsLexicographic}
 use Rattle.graph_problems.specs.GraphLines.{triangle_problem, IsCactusProblem}
 
 not_both_before : (t u : ℕ × ℕ × ℕ) → IsBefore t u → ¬ (IsBefore u t)

@@ -18,6 +18,7 @@ pub fn from_set(alloc: Global, graph: &Graph, set: &LineSet) -> Result<EdgeList,
     ensures largest { IsLargest (scalars_of 2) (matching_problem (scalars_of 2) (length graph.now.names) graph.now.ends) set.now
         → IfOk result (IsLargestMatching graph.now.ends) }
 {
+    let _edges = graph.edges();
     let mut edges = EdgeList::new(alloc);
     for i in 0..set.len() {
         edges.push(set.at(i))?;
