@@ -1,4 +1,6 @@
+mod Appearances
 mod CausalTexts
 mod Each
+mod GraphGrowth
 mod KnownNames
 mod Pieces
