@@ -106,3 +106,11 @@ number_stands name (n ∷ names) h = go (bytes_eq name n) refl h (number_stands 
         let r = below i in
         let next : 1 + number_in names name ≡ suc (number_in names name) = omega arith in
         ((let l = r.0 in omega arith), rw next r.1)
+
+-- one more name leaves the numbers of the others
+pub number_after : (name other : List ℕ) (names : List (List ℕ)) → In name names → number_in (first_appearances (names ++ other ∷ [])) name ≡ number_in (first_appearances names) name
+number_after name other names there = go (is_among names other) refl
+  where
+    go : (b : Bool) → is_among names other ≡ b → number_in (first_appearances (names ++ other ∷ [])) name ≡ number_in (first_appearances names) name
+    go true e = ap (λ seen. number_in seen name) (appears_again other names (among-In names other e))
+    go false e = ap (λ seen. number_in seen name) (appears_first other names (λ i. true≢false (sym (In-among names other i) ∙ e))) ∙ number_stays name (first_appearances names) (other ∷ []) (In-appearing name names there)

@@ -6,10 +6,11 @@ use Rattle.std.specs.Str.{bytes_eq}
 use Rattle.std.proofs.lemmas.Bool.{true≢false, lt-ltb, le-ltb, ltb-true, ltb-false, eq-eqb, ne_eqb}
 use Rattle.std.proofs.lemmas.List.Folds.{position_or_len_push, list_any-append}
 use Rattle.std.proofs.lemmas.List.Sums.{prefix_len-le-length}
-use Rattle.std.proofs.lemmas.List.{map-append, length_push}
+use Rattle.std.proofs.lemmas.Grind.{flat_map-append}
+use Rattle.std.proofs.lemmas.List.{map-append, length_push, append-nil}
 use Rattle.graph_core.specs.NamedGraphs.{NamedGraph, with_vertex}
 use Rattle.vector_spaces.proofs.Distinct.{IsDistinct}
-use Rattle.vector_spaces.proofs.Members.{In, In-append_right}
+use Rattle.vector_spaces.proofs.Members.{In, In-append, In-append_left, In-append_right}
 use Rattle.graph_text.specs.Statements.{first_appearances, is_among, number_in, named_graph}
 use Rattle.graph_text.specs.Texts.{with_name}
 use Rattle.graph_text.proofs.Appearances.{appearing-In, In-appearing, distinct-appearing, appears_first, appears_again, number_stays}
@@ -19,7 +20,7 @@ use Rattle.graph_text.proofs.KnownNames.{eq-same, same-eq, other-false, among-In
 abbrev pub members_of : List (List (List ℕ)) → List (List ℕ)
 members_of classes = flat_map (λ members. members) classes
 
-abbrev place : List (List (List ℕ)) → List ℕ → ℕ
+abbrev pub place : List (List (List ℕ)) → List ℕ → ℕ
 place classes name = position_or_len (λ members. is_among members name) classes
 
 abbrev pub class_of : List (List (List ℕ)) → List ℕ → Option ℕ
@@ -83,6 +84,21 @@ one_more_class classes last name =
 pub record AreKnown (names : List (List ℕ)) (edges : List (List ℕ × List ℕ)) (classes : List (List (List ℕ))) : Type 0 where
   pub ends : (e : List ℕ × List ℕ) → In e edges → In e.0 names × In e.1 names
   pub members : (name : List ℕ) → In name (members_of classes) → In name names
+
+pub known-more : (names more : List (List ℕ)) (edges : List (List ℕ × List ℕ)) (classes : List (List (List ℕ))) → AreKnown names edges classes → AreKnown (names ++ more) edges classes
+known-more names more edges classes h = record {
+  ends = λ e i. (In-append_left e.0 names more (h.ends e i).0, In-append_left e.1 names more (h.ends e i).1);
+  members = λ name i. In-append_left name names more (h.members name i);
+}
+
+pub known-class : (names more : List (List ℕ)) (edges : List (List ℕ × List ℕ)) (classes : List (List (List ℕ))) → AreKnown names edges classes → AreKnown (names ++ more) edges (classes ++ more ∷ [])
+known-class names more edges classes h = record {
+  ends = (known-more names more edges classes h).ends;
+  members = λ name i. elim (In-append name (members_of classes) (members_of (more ∷ [])) (subst (In name) (flat_map-append (λ members. members) classes (more ∷ [])) i)) [
+    | inl j ↦ In-append_left name names more (h.members name j)
+    | inr j ↦ In-append_right name names more (subst (In name) (append-nil more) j)
+  ];
+}
 
 abbrev numbers : List (List ℕ) → List (List ℕ × List ℕ) → List (ℕ × ℕ)
 numbers names edges = map (λ e. (number_in names e.0, number_in names e.1)) edges

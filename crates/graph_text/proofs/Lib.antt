@@ -1,6 +1,9 @@
 mod Appearances
 mod CausalTexts
 mod Each
+mod EachMeans
+mod Fits
 mod GraphGrowth
 mod KnownNames
+mod NamesMean
 mod Pieces
