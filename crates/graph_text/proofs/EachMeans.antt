@@ -7,6 +7,9 @@ use Rattle.text_forms.specs.Reading.{Reads}
 use Rattle.text_forms.proofs.Taking.{bind_ok, same_given}
 use Rattle.graph_text.specs.Texts.{value_then, each, some}
 
+pub of_both : {A B : Type 0} (P : A → B → Type 0) (a a' : A) (b b' : B) → a ≡ a' → b ≡ b' → P a b → P a' b'
+of_both P a a' b b' e f h = subst (P a') f (subst (λ x. P x b) e h)
+
 -- items that say these things, in order
 abbrev pub SayAll : {S T : Type 0} → (S → T → Type 0) → List S → List T → Type 0
 SayAll Says [] [] = Unit {0}

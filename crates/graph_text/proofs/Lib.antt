@@ -2,8 +2,10 @@ mod Appearances
 mod CausalTexts
 mod Each
 mod EachMeans
+mod EdgesMean
 mod Fits
 mod GraphGrowth
 mod KnownNames
+mod LinesMean
 mod NamesMean
 mod Pieces

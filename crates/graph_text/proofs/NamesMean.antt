@@ -18,7 +18,7 @@ use Rattle.graph_text.specs.Texts.{some, with_name, named, spelled_vertex, verte
 use Rattle.graph_text.proofs.Appearances.{appearing-In, In-appearing, distinct-appearing, appears_first, appears_again, number_stands}
 use Rattle.graph_text.proofs.Fits.{Fits, fits-front, fits-name, fits-short}
 use Rattle.graph_text.proofs.GraphGrowth.{AreKnown, members_of, place, class_of, in_no_class, in_a_class, known-more, known-class, one_more_name, one_more_member, class_begins}
-use Rattle.graph_text.proofs.EachMeans.{TakesOne, some-items}
+use Rattle.graph_text.proofs.EachMeans.{of_both, TakesOne, some-items}
 use Rattle.graph_text.proofs.KnownNames.{among-In, In-among}
 
 -- both tests hold
@@ -169,7 +169,7 @@ class-means most names edges classes last known fits at name left rest x =
       λ e.
           let parts = bind_ok next at (vertex most g at (name ∷ left)) (x, rest) e in
           let v = (one parts.0.1 parts.0.0).0 parts.1 in
-          let put = (puts rest x).0 (subst (λ (p : (NamedGraph × ℕ) × List (List ℕ)). next p.0 at p.1 ≡ Ok (x, rest)) (ap₂ (λ (a : NamedGraph × ℕ) (r : List (List ℕ)). (a, r)) v.3 v.0) parts.2) in
+          let put = (puts rest x).0 (of_both (λ v r. next v at r ≡ Ok (x, rest)) parts.0.0 (named_graph more edges all, number) parts.0.1 left v.3 v.0 parts.2) in
           (put.0, fits-name most names edges (members_of all) _ name fits v.1 v.2 (subst IsDistinct (sym grown) ((distinct_push (members_of all) name).1 (fits.apart, put.1))), put.2),
       λ h.
           let apart = (distinct_push (members_of all) name).0 (subst IsDistinct grown h.1.apart) in
