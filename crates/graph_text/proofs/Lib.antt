@@ -9,3 +9,4 @@ mod KnownNames
 mod LinesMean
 mod NamesMean
 mod Pieces
+mod TextsMean
