@@ -18,7 +18,7 @@ pub fn graph_texts_give_what_is_spelled()
 
 /// What is read is a graph within the limits.
 pub fn graphs_are_within_limits()
-    ensures within { (most last : ℕ) (text rest : List Line) (g : NamedGraph) → graph most last text ≡ Ok (g, rest)
+    ensures { (most last : ℕ) (text rest : List Line) (g : NamedGraph) → graph most last text ≡ Ok (g, rest)
         → IsNamedGraph g × (length g.names ≤ most) × (length g.ends ≤ 512) × All (λ name. length name ≤ 32) g.names }
 {}
 
