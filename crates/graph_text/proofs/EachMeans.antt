@@ -21,7 +21,8 @@ SayAll Says (s ∷ ss) [] = ⊥
 pub record ReadsOne {S T A : Type 0} (next : A → Reads T A) (Says : S → T → Type 0) (state : List S → A) (Fine : List S → Type 0) : Type 0 where
   pub front : (said more : List S) → Fine (said ++ more) → Fine said
   pub one : (said : List S) (at : ℕ) (t : T) (left rest : List T) (x : A) → Fine said
-      → (next (state said) at (t ∷ left) ≡ Ok (x, rest)) ↔ ((s : S) × (rest ≡ left) × Says s t × Fine (said ++ s ∷ []) × (x ≡ state (said ++ s ∷ [])))
+      → (next (state said) at (t ∷ left) ≡ Ok (x, rest))
+      ↔ ((s : S) × (rest ≡ left) × Says s t × Fine (said ++ s ∷ []) × (x ≡ state (said ++ s ∷ [])))
 
 -- all that is left says these things more
 abbrev pub SaysMore : {S T A : Type 0} → (S → T → Type 0) → (List S → A) → (List S → Type 0) → List S → List T → A → List T → Type 0
@@ -34,12 +35,15 @@ says_one Says state Fine said s t ts rest x says others =
     let all = append_assoc said (s ∷ []) others.0 in
     (s ∷ others.0, others.1, (says, others.2), subst Fine all others.3, others.4 ∙ ap state all)
 
-value_ok : {T A B : Type 0} (next : A → Result B TextRefusal) (read : Result (A × List T) TextRefusal) (y : B) → value_then next read ≡ Ok y → (x : A × List T) × (read ≡ Ok x) × (next x.0 ≡ Ok y)
+value_ok : {T A B : Type 0} (next : A → Result B TextRefusal) (read : Result (A × List T) TextRefusal) (y : B) → value_then next read ≡ Ok y
+    → (x : A × List T) × (read ≡ Ok x) × (next x.0 ≡ Ok y)
 value_ok next (Ok x) y e = (x, refl, e)
 value_ok next (Err d) y e = absurd (cc (e))
 
-pub each-means : {S T A : Type 0} (next : A → Reads T A) (Says : S → T → Type 0) (state : List S → A) (Fine : List S → Type 0) → ReadsOne next Says state Fine
-    → (said : List S) (at : ℕ) (ts rest : List T) (x : A) → Fine said → (each next (state said) at ts ≡ Ok (x, rest)) ↔ SaysMore Says state Fine said ts x rest
+pub each-means : {S T A : Type 0} (next : A → Reads T A) (Says : S → T → Type 0) (state : List S → A) (Fine : List S → Type 0)
+    → ReadsOne next Says state Fine
+    → (said : List S) (at : ℕ) (ts rest : List T) (x : A) → Fine said → (each next (state said) at ts ≡ Ok (x, rest))
+    ↔ SaysMore Says state Fine said ts x rest
 unfolding each
 each-means {S} {T} {A} next Says state Fine reads said at [] rest x fine = (
   λ e. let same = same_given (state said, []) (x, rest) e in
@@ -59,7 +63,9 @@ each-means {S} {T} {A} next Says state Fine reads said at (t ∷ ts) rest x fine
   λ h. some_more h.0 (λ said fine. (each-means next Says state Fine reads said at ts rest x fine).1) h.1 h.2 h.3 h.4,
 )
   where
-    some_more : (more : List S) → ((said : List S) → Fine said → SaysMore Says state Fine said ts x rest → each next (state said) at ts ≡ Ok (x, rest)) → rest ≡ [] → SayAll Says more (t ∷ ts) → Fine (said ++ more) → x ≡ state (said ++ more) → each next (state said) at (t ∷ ts) ≡ Ok (x, rest)
+    some_more : (more : List S)
+        → ((said : List S) → Fine said → SaysMore Says state Fine said ts x rest → each next (state said) at ts ≡ Ok (x, rest)) → rest ≡ []
+        → SayAll Says more (t ∷ ts) → Fine (said ++ more) → x ≡ state (said ++ more) → each next (state said) at (t ∷ ts) ≡ Ok (x, rest)
     some_more [] others e says fit is = absurd says
     some_more (s ∷ more) others e says fit is =
         let longer = said ++ s ∷ [] in
@@ -70,9 +76,11 @@ each-means {S} {T} {A} next Says state Fine reads said at (t ∷ ts) rest x fine
         rw first (others longer so_far (more, e, says.1, fit', is ∙ ap state (sym all)))
 
 -- one or more
-pub some-means : {S T A : Type 0} (next : A → Reads T A) (Says : S → T → Type 0) (state : List S → A) (Fine : List S → Type 0) → ReadsOne next Says state Fine
+pub some-means : {S T A : Type 0} (next : A → Reads T A) (Says : S → T → Type 0) (state : List S → A) (Fine : List S → Type 0)
+    → ReadsOne next Says state Fine
     → ((x y : A) (at : ℕ) (rest : List T) → next x at [] ≢ Ok (y, rest))
-    → (said : List S) (at : ℕ) (ts rest : List T) (x : A) → Fine said → (some next (state said) at ts ≡ Ok (x, rest)) ↔ ((0 < length ts) × SaysMore Says state Fine said ts x rest)
+    → (said : List S) (at : ℕ) (ts rest : List T) (x : A) → Fine said → (some next (state said) at ts ≡ Ok (x, rest))
+    ↔ ((0 < length ts) × SaysMore Says state Fine said ts x rest)
 unfolding each
 some-means next Says state Fine reads due said at [] rest x fine = (
   λ e. let parts = bind_ok (each next) at (next (state said) at []) (x, rest) e in absurd (due (state said) parts.0.0 at parts.0.1 parts.1),
@@ -113,7 +121,8 @@ pub record TakesOne {T A : Type 0} (next : A → Reads T A) (state : List T → 
 
 -- one or more items
 pub some-items : {T A : Type 0} (next : A → Reads T A) (state : List T → A) (Fine : List T → Type 0) → TakesOne next state Fine
-    → (at : ℕ) (ts rest : List T) (x : A) → Fine [] → (some next (state []) at ts ≡ Ok (x, rest)) ↔ ((0 < length ts) × (rest ≡ []) × Fine ts × (x ≡ state ts))
+    → (at : ℕ) (ts rest : List T) (x : A) → Fine [] → (some next (state []) at ts ≡ Ok (x, rest))
+    ↔ ((0 < length ts) × (rest ≡ []) × Fine ts × (x ≡ state ts))
 some-items {T} {A} next state Fine takes at ts rest x fine =
     let reads : ReadsOne next (λ (s t : T). s ≡ t) state Fine = record {
       front = takes.front;

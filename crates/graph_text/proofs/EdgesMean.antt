@@ -17,10 +17,15 @@ use Rattle.graph_text.proofs.EachMeans.{of_both}
 use Rattle.graph_text.proofs.Fits.{Fits, all-append, more_appear}
 use Rattle.graph_text.proofs.GraphGrowth.{AreKnown, members_of, known-more, one_more_edge}
 use Rattle.graph_text.proofs.NamesMean.{vertex-means, vertex-due}
+use Rattle.graph_text.proofs.KnownNames.{Names, EdgeNames, ClassNames}
 
-two-mean : (most : ℕ) (names : List (List ℕ)) (edges : List (List ℕ × List ℕ)) (classes : List (List (List ℕ))) → AreKnown names edges classes → Fits most names edges (members_of classes) → length edges < 512
-    → (at : ℕ) (a b : List ℕ) (left rest : List (List ℕ)) (x : NamedGraph) → (two_ends most (named_graph names edges classes) at (a ∷ b ∷ left) ≡ Ok (x, rest))
-    ↔ ((rest ≡ left) × Fits most ((names ++ a ∷ []) ++ b ∷ []) (edges ++ (a, b) ∷ []) (members_of classes) × (x ≡ named_graph ((names ++ a ∷ []) ++ b ∷ []) (edges ++ (a, b) ∷ []) classes))
+two-mean : (most : ℕ) (names : Names) (edges : EdgeNames) (classes : ClassNames) → AreKnown names edges classes
+    → Fits most names edges (members_of classes) → length edges < 512
+    → (at : ℕ) (a b : List ℕ) (left rest : Names) (x : NamedGraph)
+    → (two_ends most (named_graph names edges classes) at (a ∷ b ∷ left) ≡ Ok (x, rest))
+    ↔ ((rest ≡ left)
+        × Fits most ((names ++ a ∷ []) ++ b ∷ []) (edges ++ (a, b) ∷ []) (members_of classes)
+        × (x ≡ named_graph ((names ++ a ∷ []) ++ b ∷ []) (edges ++ (a, b) ∷ []) classes))
 unfolding two_ends
 two-mean most names edges classes known fits room at a b left rest x =
     let g = named_graph names edges classes in
@@ -36,7 +41,8 @@ two-mean most names edges classes known fits room at a b left rest x =
     let known₁ = known-more names (a ∷ []) edges classes known in
     let with_edge = record g₂ { ends = g₂.ends ++ (n₁, n₂) ∷ [] } in
     let stays : number_in (first_appearances names₂) a ≡ n₁ = number_after a b names₁ (In-append_right a names (a ∷ []) (inl refl)) in
-    let becomes : with_edge ≡ named_graph names₂ (edges ++ (a, b) ∷ []) classes = ap (λ n. record g₂ { ends = g₂.ends ++ (n, n₂) ∷ [] }) (sym stays) ∙ one_more_edge names₂ edges classes a b in (
+    let becomes : with_edge ≡ named_graph names₂ (edges ++ (a, b) ∷ []) classes =
+        ap (λ n. record g₂ { ends = g₂.ends ++ (n, n₂) ∷ [] }) (sym stays) ∙ one_more_edge names₂ edges classes a b in (
       λ e.
           let p = bind_ok then at (vertex most g at (a ∷ b ∷ left)) (x, rest) e in
           let v = (one p.0.1 p.0.0).0 p.1 in
@@ -59,17 +65,20 @@ two-mean most names edges classes known fits room at a b left rest x =
       λ h.
           let short = (all-append (λ name. length name ≤ 32) names₁ (b ∷ [])).0 h.1.short in
           let few : length (first_appearances names₁) ≤ most = let l = h.1.few_vertices in let m = more_appear names₁ (b ∷ []) in omega (arith, l, m) in
-          let v : vertex most g at (a ∷ b ∷ left) ≡ Ok ((g₁, n₁), b ∷ left) = (one (b ∷ left) (g₁, n₁)).1 (refl, ((all-append (λ name. length name ≤ 32) names (a ∷ [])).0 short.0).1.0, few, refl) in
-          let w : vertex most g₁ at (b ∷ left) ≡ Ok ((g₂, n₂), left) = (vertex-means most names₁ edges classes known₁ few at b left left (g₂, n₂)).1 (refl, short.1.0, h.1.few_vertices, refl) in
-          rw (v, w) (ap₂ (λ (f : NamedGraph) (r : List (List ℕ)). Ok (f, r)) (becomes ∙ sym h.2) (sym h.0)),
+          let v : vertex most g at (a ∷ b ∷ left) ≡ Ok ((g₁, n₁), b ∷ left) =
+              (one (b ∷ left) (g₁, n₁)).1 (refl, ((all-append (λ name. length name ≤ 32) names (a ∷ [])).0 short.0).1.0, few, refl) in
+          let w : vertex most g₁ at (b ∷ left) ≡ Ok ((g₂, n₂), left) =
+              (vertex-means most names₁ edges classes known₁ few at b left left (g₂, n₂)).1 (refl, short.1.0, h.1.few_vertices, refl) in
+          rw (v, w) (ap₂ (λ (f : NamedGraph) (r : Names). Ok (f, r)) (becomes ∙ sym h.2) (sym h.0)),
     )
 
-none-given : (most : ℕ) (g : NamedGraph) (at : ℕ) (x : NamedGraph) (rest : List (List ℕ)) → two_ends most g at [] ≡ Ok (x, rest) → ⊥
+none-given : (most : ℕ) (g : NamedGraph) (at : ℕ) (x : NamedGraph) (rest : Names) → two_ends most g at [] ≡ Ok (x, rest) → ⊥
 unfolding two_ends vertex
 none-given most g at x rest e = absurd (cc (e))
 
-one-given : (most : ℕ) (names : List (List ℕ)) (edges : List (List ℕ × List ℕ)) (classes : List (List (List ℕ))) → AreKnown names edges classes → length (first_appearances names) ≤ most
-    → (at : ℕ) (a : List ℕ) (x : NamedGraph) (rest : List (List ℕ)) → two_ends most (named_graph names edges classes) at (a ∷ []) ≡ Ok (x, rest) → ⊥
+one-given : (most : ℕ) (names : Names) (edges : EdgeNames) (classes : ClassNames) → AreKnown names edges classes
+    → length (first_appearances names) ≤ most
+    → (at : ℕ) (a : List ℕ) (x : NamedGraph) (rest : Names) → two_ends most (named_graph names edges classes) at (a ∷ []) ≡ Ok (x, rest) → ⊥
 unfolding two_ends
 one-given most names edges classes known fits at a x rest e =
     let put : NamedGraph × ℕ → NamedGraph × ℕ → Place NamedGraph = λ first second. give (record second.0 { ends = second.0.ends ++ (first.1, second.1) ∷ [] }) in
@@ -78,14 +87,17 @@ one-given most names edges classes known fits at a x rest e =
     let q = bind_ok (put p.0.0) at (vertex most p.0.0.0 at p.0.1) (x, rest) p.2 in
     vertex-due most p.0.0.0 at q.0.0 q.0.1 (ap (vertex most p.0.0.0 at) (sym v.0) ∙ q.1)
 
-within-is : {A : Type 0} (b : Bool) (one : Place A) (what : Counted) (found at : ℕ) (words rest : List (List ℕ)) (x : A) → (cond b one (above what found) at words ≡ Ok (x, rest)) ↔ ((b ≡ true) × (one at words ≡ Ok (x, rest)))
+within-is : {A : Type 0} (b : Bool) (one : Place A) (what : Counted) (found at : ℕ) (words rest : Names) (x : A)
+    → (cond b one (above what found) at words ≡ Ok (x, rest)) ↔ ((b ≡ true) × (one at words ≡ Ok (x, rest)))
 within-is true one what found at words rest x = (λ e. (refl, e), λ h. h.1)
 within-is false one what found at words rest x = (λ e. absurd (cc (e)), λ h. absurd (cc (h.0)))
 
 -- an edge, by its two names
-pub edge-mean : (most : ℕ) (names : List (List ℕ)) (edges : List (List ℕ × List ℕ)) (classes : List (List (List ℕ))) → AreKnown names edges classes → Fits most names edges (members_of classes)
-    → (at : ℕ) (words rest : List (List ℕ)) (x : NamedGraph) → (edge_within most (named_graph names edges classes) at words ≡ Ok (x, rest))
-    ↔ ((a : List ℕ) × (b : List ℕ) × (words ≡ a ∷ b ∷ rest) × Fits most (names ++ a ∷ b ∷ []) (edges ++ (a, b) ∷ []) (members_of classes) × (x ≡ named_graph (names ++ a ∷ b ∷ []) (edges ++ (a, b) ∷ []) classes))
+pub edge-mean : (most : ℕ) (names : Names) (edges : EdgeNames) (classes : ClassNames) → AreKnown names edges classes
+    → Fits most names edges (members_of classes)
+    → (at : ℕ) (words rest : Names) (x : NamedGraph) → (edge_within most (named_graph names edges classes) at words ≡ Ok (x, rest))
+    ↔ ((a : List ℕ) × (b : List ℕ) × (words ≡ a ∷ b ∷ rest) × Fits most (names ++ a ∷ b ∷ []) (edges ++ (a, b) ∷ []) (members_of classes)
+        × (x ≡ named_graph (names ++ a ∷ b ∷ []) (edges ++ (a, b) ∷ []) classes))
 unfolding edge_within
 edge-mean most names edges classes known fits at words rest x =
     let g = named_graph names edges classes in
@@ -94,16 +106,20 @@ edge-mean most names edges classes known fits at words rest x =
       λ e. let h = within.0 e in let room = ltb-true (length g.ends) 512 h.0 in from words (omega (arith, room, as_many)) h.1,
       λ h.
           let room : length edges < 512 = let l = h.3.few_edges in let longer = length_push edges (h.0, h.1) in omega (arith, l, longer) in
-          let both = (two-mean most names edges classes known fits room at h.0 h.1 rest rest x).1 (refl, subst (λ ns. Fits most ns (edges ++ (h.0, h.1) ∷ []) (members_of classes)) (sym (append_assoc names (h.0 ∷ []) (h.1 ∷ []))) h.3,
-              h.4 ∙ ap (λ ns. named_graph ns (edges ++ (h.0, h.1) ∷ []) classes) (sym (append_assoc names (h.0 ∷ []) (h.1 ∷ [])))) in
+          let all = sym (append_assoc names (h.0 ∷ []) (h.1 ∷ [])) in
+          let longer = edges ++ (h.0, h.1) ∷ [] in
+          let both = (two-mean most names edges classes known fits room at h.0 h.1 rest rest x).1
+              (refl, subst (λ ns. Fits most ns longer (members_of classes)) all h.3, h.4 ∙ ap (λ ns. named_graph ns longer classes) all) in
           within.1 (lt-ltb (length g.ends) 512 (omega (arith, room, as_many)), ap (two_ends most g at) h.2 ∙ both),
     )
   where
-    from : (words : List (List ℕ)) → length edges < 512 → two_ends most (named_graph names edges classes) at words ≡ Ok (x, rest)
-        → (a : List ℕ) × (b : List ℕ) × (words ≡ a ∷ b ∷ rest) × Fits most (names ++ a ∷ b ∷ []) (edges ++ (a, b) ∷ []) (members_of classes) × (x ≡ named_graph (names ++ a ∷ b ∷ []) (edges ++ (a, b) ∷ []) classes)
+    from : (words : Names) → length edges < 512 → two_ends most (named_graph names edges classes) at words ≡ Ok (x, rest)
+        → (a : List ℕ) × (b : List ℕ) × (words ≡ a ∷ b ∷ rest) × Fits most (names ++ a ∷ b ∷ []) (edges ++ (a, b) ∷ []) (members_of classes)
+            × (x ≡ named_graph (names ++ a ∷ b ∷ []) (edges ++ (a, b) ∷ []) classes)
     from [] room e = absurd (none-given most (named_graph names edges classes) at x rest e)
     from (a ∷ []) room e = absurd (one-given most names edges classes known fits.few_vertices at a x rest e)
     from (a ∷ b ∷ left) room e =
         let h = (two-mean most names edges classes known fits room at a b left rest x).0 e in
         let all = append_assoc names (a ∷ []) (b ∷ []) in
-        (a, b, ap (λ r. a ∷ b ∷ r) (sym h.0), subst (λ ns. Fits most ns (edges ++ (a, b) ∷ []) (members_of classes)) all h.1, h.2 ∙ ap (λ ns. named_graph ns (edges ++ (a, b) ∷ []) classes) all)
+        (a, b, ap (λ r. a ∷ b ∷ r) (sym h.0), subst (λ ns. Fits most ns (edges ++ (a, b) ∷ []) (members_of classes)) all h.1,
+            h.2 ∙ ap (λ ns. named_graph ns (edges ++ (a, b) ∷ []) classes) all)

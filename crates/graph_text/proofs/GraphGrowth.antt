@@ -14,24 +14,17 @@ use Rattle.vector_spaces.proofs.Members.{In, In-append, In-append_left, In-appen
 use Rattle.graph_text.specs.Statements.{first_appearances, is_among, number_in, named_graph}
 use Rattle.graph_text.specs.Texts.{with_name}
 use Rattle.graph_text.proofs.Appearances.{appearing-In, In-appearing, distinct-appearing, appears_first, appears_again, number_stays}
-use Rattle.graph_text.proofs.KnownNames.{eq-same, same-eq, other-false, among-In, In-among}
+use Rattle.graph_text.proofs.KnownNames.{Names, EdgeNames, ClassNames, eq-same, same-eq, other-false, among-In, In-among, among-not, not-among}
 
 -- the names on the lines of classes, where the class of a name stands, and the class
-abbrev pub members_of : List (List (List ℕ)) → List (List ℕ)
+abbrev pub members_of : ClassNames → Names
 members_of classes = flat_map (λ members. members) classes
 
-abbrev pub place : List (List (List ℕ)) → List ℕ → ℕ
+abbrev pub place : ClassNames → List ℕ → ℕ
 place classes name = position_or_len (λ members. is_among members name) classes
 
-abbrev pub class_of : List (List (List ℕ)) → List ℕ → Option ℕ
+abbrev pub class_of : ClassNames → List ℕ → Option ℕ
 class_of classes name = position (λ members. is_among members name) classes
-
-pub not-among : (names : List (List ℕ)) (name : List ℕ) → ¬ (In name names) → is_among names name ≡ false
-not-among names name absent = go (is_among names name) refl
-  where
-    go : (b : Bool) → is_among names name ≡ b → b ≡ false
-    go true e = absurd (absent (among-In names name e))
-    go false e = refl
 
 ltb_suc : (a b : ℕ) → ltb (suc a) (suc b) ≡ ltb a b
 ltb_suc a b = go (ltb a b) refl
@@ -41,7 +34,7 @@ ltb_suc a b = go (ltb a b) refl
     go false e = let l = ltb-false a b e in le-ltb (suc a) (suc b) (omega arith)
 
 -- a name is in a class where it stands on the line of one
-in_some_class : (classes : List (List (List ℕ))) (name : List ℕ) → ltb (place classes name) (length classes) ≡ is_among (members_of classes) name
+in_some_class : (classes : ClassNames) (name : List ℕ) → ltb (place classes name) (length classes) ≡ is_among (members_of classes) name
 in_some_class [] name = refl
 in_some_class (c ∷ classes) name = go (is_among c name) (in_some_class classes name) ∙ sym (list_any-append (bytes_eq name) c (members_of classes))
   where
@@ -50,13 +43,14 @@ in_some_class (c ∷ classes) name = go (is_among c name) (in_some_class classes
     go true h = lt-ltb 0 (length (c ∷ classes)) (omega arith)
     go false h = let next : 1 + place classes name ≡ suc (place classes name) = omega arith in rw next (ltb_suc (place classes name) (length classes) ∙ h)
 
-pub class-is : (classes : List (List (List ℕ))) (name : List ℕ) → class_of classes name ≡ cond (is_among (members_of classes) name) (Some (place classes name)) None
+pub class-is : (classes : ClassNames) (name : List ℕ)
+    → class_of classes name ≡ cond (is_among (members_of classes) name) (Some (place classes name)) None
 class-is classes name = ap (λ b. cond b (Some (place classes name)) None) (in_some_class classes name)
 
-pub in_no_class : (classes : List (List (List ℕ))) (name : List ℕ) → ¬ (In name (members_of classes)) → class_of classes name ≡ None
+pub in_no_class : (classes : ClassNames) (name : List ℕ) → ¬ (In name (members_of classes)) → class_of classes name ≡ None
 in_no_class classes name absent = class-is classes name ∙ ap (λ b. cond b (Some (place classes name)) None) (not-among (members_of classes) name absent)
 
-pub in_a_class : (classes : List (List (List ℕ))) (name : List ℕ) → In name (members_of classes) → class_of classes name ≡ Some (place classes name)
+pub in_a_class : (classes : ClassNames) (name : List ℕ) → In name (members_of classes) → class_of classes name ≡ Some (place classes name)
 in_a_class classes name there = class-is classes name ∙ ap (λ b. cond b (Some (place classes name)) None) (In-among (members_of classes) name there)
 
 -- the first of two, if there is one
@@ -64,34 +58,39 @@ abbrev first_or : Option ℕ → Option ℕ → Option ℕ
 first_or (Some k) other = Some k
 first_or None other = other
 
-pushed : (n l : ℕ) (b : Bool) → n ≤ l → cond (ltb (cond (eqb n l) (l + cond b 0 1) n) (l + 1)) (Some (cond (eqb n l) (l + cond b 0 1) n)) None ≡ first_or (cond (ltb n l) (Some n) None) (cond b (Some l) None)
+pushed : (n l : ℕ) (b : Bool) → n ≤ l
+    → cond (ltb (cond (eqb n l) (l + cond b 0 1) n) (l + 1)) (Some (cond (eqb n l) (l + cond b 0 1) n)) None ≡ first_or (cond (ltb n l) (Some n) None) (cond b (Some l) None)
 pushed n l b within = go (ltb n l) refl b
   where
-    go : (v : Bool) → ltb n l ≡ v → (b : Bool) → cond (ltb (cond (eqb n l) (l + cond b 0 1) n) (l + 1)) (Some (cond (eqb n l) (l + cond b 0 1) n)) None ≡ first_or (cond v (Some n) None) (cond b (Some l) None)
+    go : (v : Bool) → ltb n l ≡ v → (b : Bool)
+        → cond (ltb (cond (eqb n l) (l + cond b 0 1) n) (l + 1)) (Some (cond (eqb n l) (l + cond b 0 1) n)) None ≡ first_or (cond v (Some n) None) (cond b (Some l) None)
     go true e b = let less = ltb-true n l e in rw (ne_eqb n l (λ same. omega (arith, less, same)), lt-ltb n (l + 1) (omega arith)) refl
     go false e true = let more = ltb-false n l e in
         rw (eq-eqb n l (omega arith), lt-ltb (l + 0) (l + 1) (omega arith)) (ap Some (omega arith))
     go false e false = let more = ltb-false n l e in rw (eq-eqb n l (omega arith), le-ltb (l + 1) (l + 1) (omega arith)) refl
 
 -- the class of a name, with one more class
-pub one_more_class : (classes : List (List (List ℕ))) (last : List (List ℕ)) (name : List ℕ) → class_of (classes ++ last ∷ []) name ≡ first_or (class_of classes name) (cond (is_among last name) (Some (length classes)) None)
+pub one_more_class : (classes : ClassNames) (last : Names) (name : List ℕ)
+    → class_of (classes ++ last ∷ []) name ≡ first_or (class_of classes name) (cond (is_among last name) (Some (length classes)) None)
 one_more_class classes last name =
     let at = position_or_len_push (λ members. is_among members name) classes last in
     ap₂ (λ (k l : ℕ). cond (ltb k l) (Some k) None) at (length_push classes last)
     ∙ pushed (place classes name) (length classes) (is_among last name) (prefix_len-le-length (λ members. not (is_among members name)) classes)
 
 -- the names of edges and of classes are among those of vertices
-pub record AreKnown (names : List (List ℕ)) (edges : List (List ℕ × List ℕ)) (classes : List (List (List ℕ))) : Type 0 where
+pub record AreKnown (names : Names) (edges : EdgeNames) (classes : ClassNames) : Type 0 where
   pub ends : (e : List ℕ × List ℕ) → In e edges → In e.0 names × In e.1 names
   pub members : (name : List ℕ) → In name (members_of classes) → In name names
 
-pub known-more : (names more : List (List ℕ)) (edges : List (List ℕ × List ℕ)) (classes : List (List (List ℕ))) → AreKnown names edges classes → AreKnown (names ++ more) edges classes
+pub known-more : (names more : Names) (edges : EdgeNames) (classes : ClassNames) → AreKnown names edges classes
+    → AreKnown (names ++ more) edges classes
 known-more names more edges classes h = record {
   ends = λ e i. (In-append_left e.0 names more (h.ends e i).0, In-append_left e.1 names more (h.ends e i).1);
   members = λ name i. In-append_left name names more (h.members name i);
 }
 
-pub known-class : (names more : List (List ℕ)) (edges : List (List ℕ × List ℕ)) (classes : List (List (List ℕ))) → AreKnown names edges classes → AreKnown (names ++ more) edges (classes ++ more ∷ [])
+pub known-class : (names more : Names) (edges : EdgeNames) (classes : ClassNames) → AreKnown names edges classes
+    → AreKnown (names ++ more) edges (classes ++ more ∷ [])
 known-class names more edges classes h = record {
   ends = (known-more names more edges classes h).ends;
   members = λ name i. elim (In-append name (members_of classes) (members_of (more ∷ [])) (subst (In name) (flat_map-append (λ members. members) classes (more ∷ [])) i)) [
@@ -100,10 +99,11 @@ known-class names more edges classes h = record {
   ];
 }
 
-abbrev numbers : List (List ℕ) → List (List ℕ × List ℕ) → List (ℕ × ℕ)
+abbrev numbers : Names → EdgeNames → List (ℕ × ℕ)
 numbers names edges = map (λ e. (number_in names e.0, number_in names e.1)) edges
 
-numbers_stay : (names more : List (List ℕ)) (edges : List (List ℕ × List ℕ)) → ((e : List ℕ × List ℕ) → In e edges → In e.0 names × In e.1 names) → numbers (names ++ more) edges ≡ numbers names edges
+numbers_stay : (names more : Names) (edges : EdgeNames) → ((e : List ℕ × List ℕ) → In e edges → In e.0 names × In e.1 names)
+    → numbers (names ++ more) edges ≡ numbers names edges
 numbers_stay names more [] h = refl
 numbers_stay names more (e ∷ edges) h =
     let here = h e (inl refl) in
@@ -112,18 +112,20 @@ numbers_stay names more (e ∷ edges) h =
     (numbers_stay names more edges (λ f i. h f (inr i)))
 
 -- the graph of names that are different
-abbrev of_different : List (List ℕ × List ℕ) → List (List (List ℕ)) → List (List ℕ) → NamedGraph
+abbrev of_different : EdgeNames → ClassNames → Names → NamedGraph
 of_different edges classes names = record { names = names; ends = numbers names edges; classes = map (class_of classes) names }
 
 -- one more name
-pub one_more_name : (names : List (List ℕ)) (edges : List (List ℕ × List ℕ)) (classes : List (List (List ℕ))) (name : List ℕ) → AreKnown names edges classes
+pub one_more_name : (names : Names) (edges : EdgeNames) (classes : ClassNames) (name : List ℕ) → AreKnown names edges classes
     → with_name (named_graph names edges classes) name ≡ named_graph (names ++ name ∷ []) edges classes
 one_more_name names edges classes name known = go (is_among (first_appearances names) name) refl
   where
-    go : (b : Bool) → is_among (first_appearances names) name ≡ b → cond b (of_different edges classes (first_appearances names)) (with_vertex (of_different edges classes (first_appearances names)) name) ≡ of_different edges classes (first_appearances (names ++ name ∷ []))
+    go : (b : Bool) → is_among (first_appearances names) name ≡ b
+        → cond b (of_different edges classes (first_appearances names)) (with_vertex (of_different edges classes (first_appearances names)) name)
+        ≡ of_different edges classes (first_appearances (names ++ name ∷ []))
     go true e = sym (ap (of_different edges classes) (appears_again name names (appearing-In name names (among-In (first_appearances names) name e))))
     go false e =
-        let new : ¬ (In name names) = λ i. true≢false (sym (In-among (first_appearances names) name (In-appearing name names i)) ∙ e) in
+        let new : ¬ (In name names) = λ i. among-not (first_appearances names) name e (In-appearing name names i) in
         let seen = first_appearances names in
         let ends = numbers_stay seen (name ∷ []) edges (λ f i. (In-appearing f.0 names (known.ends f i).0, In-appearing f.1 names (known.ends f i).1)) in
         let none = in_no_class classes name (λ i. new (known.members name i)) in
@@ -134,8 +136,11 @@ one_more_name names edges classes name known = go (is_among (first_appearances n
         )
 
 -- one more edge
-pub one_more_edge : (names : List (List ℕ)) (edges : List (List ℕ × List ℕ)) (classes : List (List (List ℕ))) (first second : List ℕ)
-    → record (named_graph names edges classes) { ends = (named_graph names edges classes).ends ++ (number_in (first_appearances names) first, number_in (first_appearances names) second) ∷ [] }
+pub one_more_edge : (names : Names) (edges : EdgeNames) (classes : ClassNames) (first second : List ℕ)
+    → record (named_graph names edges classes) {
+      ends = (named_graph names edges classes).ends
+          ++ (number_in (first_appearances names) first, number_in (first_appearances names) second) ∷ [];
+    }
     ≡ named_graph names (edges ++ (first, second) ∷ []) classes
 one_more_edge names edges classes first second =
     ap (λ es. record { names = first_appearances names; ends = es; classes = map (class_of classes) (first_appearances names) })
@@ -143,17 +148,19 @@ one_more_edge names edges classes first second =
 
 -- ---- one more name in the last class
 
-map_alike : {Y : Type 0} (f f' : List ℕ → Y) (names : List (List ℕ)) → ((x : List ℕ) → In x names → f x ≡ f' x) → map f names ≡ map f' names
+map_alike : {Y : Type 0} (f f' : List ℕ → Y) (names : Names) → ((x : List ℕ) → In x names → f x ≡ f' x) → map f names ≡ map f' names
 map_alike f f' [] same = refl
 map_alike {Y} f f' (n ∷ names) same = ap₂ (λ (y : Y) (ys : List Y). y ∷ ys) (same n (inl refl)) (map_alike f f' names (λ x i. same x (inr i)))
 
 -- what is put at the number of a name, where the names are different
-put_at_number : {Y : Type 0} (f f' : List ℕ → Y) (name : List ℕ) (names : List (List ℕ)) → IsDistinct names → In name names → ((x : List ℕ) → x ≢ name → f x ≡ f' x)
+put_at_number : {Y : Type 0} (f f' : List ℕ → Y) (name : List ℕ) (names : Names) → IsDistinct names → In name names
+    → ((x : List ℕ) → x ≢ name → f x ≡ f' x)
     → slice_set (map f names) (number_in names name) (f' name) ≡ map f' names
 put_at_number f f' name [] apart there same = absurd there
 put_at_number {Y} f f' name (n ∷ names) apart there same = go (bytes_eq name n) refl there (put_at_number f f' name names apart.1)
   where
-    go : (b : Bool) → bytes_eq name n ≡ b → In name (n ∷ names) → (In name names → ((x : List ℕ) → x ≢ name → f x ≡ f' x) → slice_set (map f names) (number_in names name) (f' name) ≡ map f' names)
+    go : (b : Bool) → bytes_eq name n ≡ b → In name (n ∷ names)
+        → (In name names → ((x : List ℕ) → x ≢ name → f x ≡ f' x) → slice_set (map f names) (number_in names name) (f' name) ≡ map f' names)
         → slice_set (map f (n ∷ names)) (cond (not b) (1 + number_in names name) 0) (f' name) ≡ map f' (n ∷ names)
     go true e i below =
         let here = same-eq name n e in
@@ -165,9 +172,11 @@ put_at_number {Y} f f' name (n ∷ names) apart there same = go (bytes_eq name n
         rw next (ap₂ (λ (y : Y) (ys : List Y). y ∷ ys) (same n far) (below behind same))
 
 -- the last class has the name, and every other name has the class that it had
-pub one_more_member : (names : List (List ℕ)) (edges : List (List ℕ × List ℕ)) (classes : List (List (List ℕ))) (last : List (List ℕ)) (name : List ℕ)
+pub one_more_member : (names : Names) (edges : EdgeNames) (classes : ClassNames) (last : Names) (name : List ℕ)
     → In name names → ¬ (In name (members_of classes))
-    → record (named_graph names edges (classes ++ last ∷ [])) { classes = slice_set (named_graph names edges (classes ++ last ∷ [])).classes (number_in (first_appearances names) name) (Some (length classes)) }
+    → record (named_graph names edges (classes ++ last ∷ [])) {
+      classes = slice_set (named_graph names edges (classes ++ last ∷ [])).classes (number_in (first_appearances names) name) (Some (length classes));
+    }
     ≡ named_graph names edges (classes ++ (last ++ name ∷ []) ∷ [])
 one_more_member names edges classes last name there new =
     let seen = first_appearances names in
@@ -175,7 +184,8 @@ one_more_member names edges classes last name there new =
     let f' = class_of (classes ++ (last ++ name ∷ []) ∷ []) in
     let there' : is_among (last ++ name ∷ []) name ≡ true = In-among (last ++ name ∷ []) name (In-append_right name last (name ∷ []) (inl refl)) in
     let now : f' name ≡ Some (length classes) =
-        one_more_class classes (last ++ name ∷ []) name ∙ ap (λ k. first_or k (cond (is_among (last ++ name ∷ []) name) (Some (length classes)) None)) (in_no_class classes name new)
+        one_more_class classes (last ++ name ∷ []) name
+        ∙ ap (λ k. first_or k (cond (is_among (last ++ name ∷ []) name) (Some (length classes)) None)) (in_no_class classes name new)
         ∙ ap (λ b. cond b (Some (length classes)) None) there' in
     let same : (x : List ℕ) → x ≢ name → f x ≡ f' x = λ x other.
         one_more_class classes last x
@@ -184,7 +194,7 @@ one_more_member names edges classes last name there new =
     ap (λ ks. record { names = seen; ends = numbers seen edges; classes = ks })
     (ap (slice_set (map f seen) (number_in seen name)) (sym now) ∙ put_at_number f f' name seen (distinct-appearing names) (In-appearing name names there) same)
   where
-    also : (last : List (List ℕ)) (x : List ℕ) → x ≢ name → is_among (last ++ name ∷ []) x ≡ is_among last x
+    also : (last : Names) (x : List ℕ) → x ≢ name → is_among (last ++ name ∷ []) x ≡ is_among last x
     also last x other = list_any-append (bytes_eq x) last (name ∷ []) ∙ rw (other-false x name other) (or_false (is_among last x))
       where
         or_false : (b : Bool) → (b || (false || false)) ≡ b
@@ -192,7 +202,8 @@ one_more_member names edges classes last name there new =
         or_false false = refl
 
 -- a class without names changes nothing
-pub class_begins : (names : List (List ℕ)) (edges : List (List ℕ × List ℕ)) (classes : List (List (List ℕ))) → named_graph names edges (classes ++ [] ∷ []) ≡ named_graph names edges classes
+pub class_begins : (names : Names) (edges : EdgeNames) (classes : ClassNames)
+    → named_graph names edges (classes ++ [] ∷ []) ≡ named_graph names edges classes
 class_begins names edges classes =
     let seen = first_appearances names in
     ap (λ ks. record { names = seen; ends = numbers seen edges; classes = ks })
