@@ -1,7 +1,8 @@
 -- The lists of labels, edge by edge.
-use Rattle.std.proofs.Common.{◌≡◌, ℕ, ◌+◌, ◌<◌, ◌≤◌, List, [], ◌∷◌, ◌++◌, map, length, get_or, take, sym, ap, ap₂, subst, ◌∙◌, arith}
+use Rattle.std.proofs.Common.{◌≡◌, ℕ, ◌+◌, ◌<◌, ◌≤◌, List, [], ◌∷◌, ◌++◌, Bool, true, false, cond, eqb, max, min, map, length, get_or, take, refl, sym, ap, ap₂, subst, ◌∙◌, arith}
 use Rattle.std.specs.List.{range_with_len}
-use Rattle.std.proofs.lemmas.List.{take_more, take_all}
+use Rattle.std.proofs.lemmas.Bool.{eqb-true}
+use Rattle.std.proofs.lemmas.List.{take_more, take_all, map-id}
 use Rattle.std.proofs.lemmas.List.FromFn.{get_or-map-range_with_len, length-map-range_with_len, map-range_with_len_more}
 use Rattle.std.proofs.lemmas.Simd.{map-map}
 use Rattle.graph_theory.specs.Labels.{merged, label}
@@ -44,6 +45,18 @@ labels-step E n i ls ls' e l q a b h k =
     k ∙ ap (λ xs. map (merged (get_or xs e.0 0) (get_or xs e.1 0)) xs) h
     ∙ ap (λ (d : ℕ × ℕ). map (merged (get_or (labels (take i E) n) d.0 0) (get_or (labels (take i E) n) d.1 0)) (labels (take i E) n)) q
     ∙ labels-more E n i l (subst (λ (d : ℕ × ℕ). d.0 < n) q a) (subst (λ (d : ℕ × ℕ). d.1 < n) q b)
+
+-- one label joined with itself leaves all as they are
+merged-same : (a b : ℕ) → a ≡ b → (x : ℕ) → merged a b x ≡ x
+unfolding merged
+merged-same a b same x = go (eqb x (max a b)) refl
+  where
+    go : (v : Bool) → eqb x (max a b) ≡ v → cond v (min a b) x ≡ x
+    go true e = let at = eqb-true x (max a b) e in omega (arith, same, at)
+    go false e = refl
+
+pub joined-same : (ls : List ℕ) (a b : ℕ) → a ≡ b → map (merged a b) ls ≡ ls
+joined-same ls a b same = map_by (merged a b) (λ x. x) (merged-same a b same) ls ∙ map-id ls
 
 pub labels-length : (E : List (ℕ × ℕ)) (n : ℕ) (ls : List ℕ) → ls ≡ labels E n → length ls ≡ n
 labels-length E n ls h = ap length h ∙ length-map-range_with_len (label E) 0 n

@@ -77,8 +77,11 @@ fn join(labels: &mut Vec<usize>, first: usize, second: usize) -> bool
     ensures differ { IsTrue result ↔ (slice_index labels.old.items first ≢ slice_index labels.old.items second) }
 {
     let (a, b) = (labels[first], labels[second]);
+    if a == b {
+        return false;
+    }
     replace(labels, a.max(b), a.min(b));
-    a != b
+    true
 }
 
 /// Writes the second number for the first.

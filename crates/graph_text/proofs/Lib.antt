@@ -1,4 +1,12 @@
+mod Appearances
 mod CausalTexts
 mod Each
+mod EachMeans
+mod EdgesMean
+mod Fits
+mod GraphGrowth
 mod KnownNames
+mod LinesMean
+mod NamesMean
 mod Pieces
+mod TextsMean

@@ -1,8 +1,26 @@
 //! Laws of graph texts.
 
-ghost use Rattle.std.specs.Prelude.{ℕ};
+ghost use Rattle.std.specs.Prelude.{◌≡◌, ℕ, ◌≤◌, ◌↔◌, List, [], All, length, Ok};
+ghost use Rattle.graph_core.specs.NamedGraphs.{NamedGraph, IsNamedGraph};
+ghost use Rattle.graph_text.specs.Spells.{SpellsGraph};
 ghost use Rattle.graph_text.specs.Texts.{graph};
+ghost use Rattle.line_lexer.specs.Lines.{Line, lines_from};
 ghost use Rattle.text_forms.specs.Causality.{RefusesCausally};
+ghost use Rattle.text_forms.specs.Forms.{of_text};
+
+/// A text has a value exactly where all of its lines, in order, spell it, and so have the bytes of a text.
+pub fn graph_texts_give_what_is_spelled()
+    ensures spelled { (most last : ℕ) (text rest : List Line) (g : NamedGraph) →
+        (graph most last text ≡ Ok (g, rest)) ↔ ((rest ≡ []) × SpellsGraph most g text) }
+    ensures bytes { (most : ℕ) (bytes : List ℕ) (g : NamedGraph) →
+        (of_text (graph most) bytes ≡ Ok (g, [])) ↔ SpellsGraph most g (lines_from 1 bytes) }
+{}
+
+/// What is read is a graph within the limits.
+pub fn graphs_are_within_limits()
+    ensures { (most last : ℕ) (text rest : List Line) (g : NamedGraph) → graph most last text ≡ Ok (g, rest)
+        → IsNamedGraph g × (length g.names ≤ most) × (length g.ends ≤ 512) × All (λ name. length name ≤ 32) g.names }
+{}
 
 /// A graph text is refused by its lines up to the refused one alone, or it is `Missing` after the last line.
 pub fn graph_texts_are_causal()

@@ -2,7 +2,8 @@
 //! of the one spelling, and the laws that tie them.
 //!
 //! `specs/Texts.antt` is the form of a graph text, name by name and line by line. `specs/Statements.antt` says what its lines say and
-//! which graph they mean, and `specs/Spells.antt` which lines spell a graph; no clause cites these two yet.
+//! which graph they mean, and `specs/Spells.antt` which lines spell a graph: exactly those of which the form gives it
+//! (`proofs/TextsMean.antt`).
 #![tactic(auto)]
 
 mod laws;
@@ -14,6 +15,8 @@ mod tests;
 mod writers;
 mod writing;
 
-pub use laws::graph_texts_are_causal;
+pub use laws::{
+    graph_texts_are_causal, graph_texts_give_what_is_spelled, graphs_are_within_limits,
+};
 pub use reading::read_graph;
 pub use writers::{write_cactus, write_matching, write_paths};

@@ -1,9 +1,9 @@
-//! Graph texts, as tables: each row has the lines of a text, and its refusal, or the lines of a reply.
+//! Graph texts, as tables: each row has the lines of a text, and its refusal. And the lines of replies.
 //!
 //! ` / ` stands between lines, and ` => ` before the refusal.
 
-use crate::read_graph;
-use graph_core::Graph;
+use crate::{read_graph, write_cactus, write_matching, write_paths};
+use graph_core::{EdgeList, Graph, VertexList, VertexLists};
 use line_lexer::{Counted, Lexer, TextRefusal};
 use std::alloc::{AllocError, Global};
 use std::process::Abort;
@@ -105,5 +105,32 @@ fn classes_are_numbered_by_their_lines(rt: HostRuntime) -> Result<(), Fail> {
     assert_eq!(rt; graph.class(1), Some(1));
     assert_eq!(rt; graph.class(2), Some(0));
     assert_eq!(rt; graph.class(3), Some(1));
+    Ok(())
+}
+
+#[test]
+fn replies_are_spelled(rt: HostRuntime) -> Result<(), Fail> {
+    let alloc = rt.alloc();
+    let text = lines(alloc, "graph 1 / edge a b / vertex c / edge d c")?;
+    let graph = read(&rt, alloc, text.as_slice(), 4).expect(&rt, "a graph");
+    assert!(rt; graph.vertices() == 4 && graph.edges() == 2);
+    let mut edges = EdgeList::new(alloc);
+    edges.push(0)?;
+    edges.push(1)?;
+    let mut list = VertexList::new(alloc);
+    list.push(0)?;
+    list.push(2)?;
+    list.push(3)?;
+    let mut lists = VertexLists::new(alloc);
+    lists.push(list)?;
+    let mut out = Vec::new(alloc);
+    write_matching(&mut out, &graph, &edges)?;
+    write_cactus(&mut out, &graph, &lists)?;
+    write_paths(&mut out, &graph, &lists)?;
+    let want = lines(
+        alloc,
+        "matching 1 / size 2 / edge 1 a b / edge 2 d c / end / cactus 1 / size 1 / triangle a c d / end / paths 1 / count 1 / path a c d / end",
+    )?;
+    assert_eq!(rt; out.as_slice(), want.as_slice());
     Ok(())
 }
