@@ -68,8 +68,10 @@ fn assert_missed<F: Field>(
     requires { state.now.problem ≡ overlap.now.problem }
     ensures { IfOk result (λ _. Misses F.scalars overlap.now.problem state.now.set (overlap.now.point ∷ [])) }
 {
-    let _set = state.set();
-    match state.coordinates(overlap.point())? {
+    let (problem, _set) = (overlap.problem(), state.set());
+    let _lines = problem.len();
+    let found = state.coordinates(overlap.point())?;
+    match found {
         None => Ok(()),
         Some(_) => panic!(rt; "the point is missed"),
     }
