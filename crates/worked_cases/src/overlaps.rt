@@ -1,69 +1,131 @@
 //! Overlaps, their points, and what they raise.
 
+ghost use Rattle.std.specs.Prelude.{◌≡◌, ◌∷◌, [], IfOk, None};
+ghost use Rattle.matching_state.specs.Missing.{Misses};
+ghost use Rattle.matching_state.specs.Steps.{TellsDirectStep};
+
+use crate::common_vectors::{FORK, THIRD_AND_FIFTH};
 use crate::places::{SECOND_AND_FOURTH, ready};
-use crate::reading::{problem, shown, shown_set};
+use crate::reading::{assert_text, problem, shown, shown_set};
 use field_core::Field;
 use matching_state::Matched;
 use overlap::{Overlap, at, find, raise};
 use small_fields::{F2, F251};
-use std::alloc::AllocError;
+use std::alloc::{AllocError, Global};
 use std::process::Abort;
 use std::test::Fail;
 
-/// The overlap of the two lines that the search finds. They and its point are as given.
-fn overlap<'a, F: Field>(
-    rt: &impl Abort,
-    state: &Matched<'a, F>,
-    lines: &str,
-    point: &str,
-) -> Result<Overlap<'a, F>, AllocError> {
-    let alloc = state.alloc();
-    let None = state.direct_step()? else {
-        panic!(rt; "no direct step");
-    };
-    let found = find(state)?.expect(rt, "an overlap");
-    let (first, second) = found.lines();
-    let shown_lines = format!(in alloc; "{} {}", first as u128 + 1, second as u128 + 1)?;
-    assert_eq!(rt; shown_lines.as_str(), lines);
-    assert_eq!(rt; shown(alloc, found.point())?.as_str(), point);
-    let again = at(state, first, second)?;
-    assert_eq!(rt; shown(alloc, again.point())?.as_str(), point);
-    Ok(again)
+/// The two lines of an overlap, and its point.
+fn told<F: Field>(overlap: &Overlap<'_, F>) -> Result<String, AllocError> {
+    let alloc = overlap.alloc();
+    let (first, second) = overlap.lines();
+    let point = shown(alloc, overlap.point())?;
+    format!(in alloc; "{} {}: {}", first as u128 + 1, second as u128 + 1, point)
 }
 
-/// The longer set that a chosen one, which misses the point, leads to.
-fn raised<F: Field>(
-    rt: &impl Abort,
-    overlap: &Overlap<'_, F>,
-    text: &str,
-) -> Result<String, AllocError> {
-    let (problem, first) = (overlap.problem(), overlap.set());
-    let _lines = problem.len();
-    let state = ready(rt, overlap.alloc(), problem, text)?;
-    let set = state.set();
-    assert_eq!(rt; set.len(), first.len());
-    match state.coordinates(overlap.point())? {
-        Some(_) => panic!(rt; "the point is missed"),
-        None => shown_set(state.alloc(), &raise(overlap, set)?),
+/// Stops where a direct step leads on.
+fn assert_no_step<F: Field>(rt: &impl Abort, state: &Matched<'_, F>) -> Result<(), AllocError>
+    ensures { IfOk result (λ _. TellsDirectStep F.scalars state.now.problem state.now.set None) }
+{
+    match state.direct_step()? {
+        None => Ok(()),
+        Some(_) => panic!(rt; "no direct step"),
     }
 }
 
-/// A path of seven vertices with a branch: the edges ab, bc, cd, de, ef and gb.
-const BRANCH: &str = "parity 1\nfield 2\ndimension 7\nlines 6\n\
-    line 1 0 0 0 0 0 0 | 0 1 0 0 0 0 0\nline 0 1 0 0 0 0 0 | 0 0 1 0 0 0 0\n\
-    line 0 0 1 0 0 0 0 | 0 0 0 1 0 0 0\nline 0 0 0 1 0 0 0 | 0 0 0 0 1 0 0\n\
-    line 0 0 0 0 1 0 0 | 0 0 0 0 0 1 0\nline 0 0 0 0 0 0 1 | 0 1 0 0 0 0 0\n";
+/// The overlap that the search finds.
+fn found<F: Field>(rt: &impl Abort, state: &Matched<'_, F>) -> Result<String, AllocError> {
+    assert_no_step(rt, state)?;
+    match find(state)? {
+        Some(overlap) => told(&overlap),
+        None => String::from_str(state.alloc(), "none"),
+    }
+}
 
-const THIRD_AND_FIFTH: &str = "choice 1\nsize 2\nset 3 5\nend\n";
+/// The overlap of the two lines that the search finds.
+fn overlap<'a, F: Field>(
+    rt: &impl Abort,
+    state: &Matched<'a, F>,
+) -> Result<Overlap<'a, F>, AllocError>
+    ensures { IfOk result (λ o. o.problem ≡ state.now.problem) }
+{
+    assert_no_step(rt, state)?;
+    match find(state)? {
+        Some(overlap) => {
+            let (first, second) = overlap.lines();
+            at(state, first, second)
+        }
+        None => panic!(rt; "an overlap"),
+    }
+}
+
+/// Stops where the set spans the point.
+fn assert_missed<F: Field>(
+    rt: &impl Abort,
+    overlap: &Overlap<'_, F>,
+    state: &Matched<'_, F>,
+) -> Result<(), AllocError>
+    requires { state.now.problem ≡ overlap.now.problem }
+    ensures { IfOk result (λ _. Misses F.scalars overlap.now.problem state.now.set (overlap.now.point ∷ [])) }
+{
+    let (problem, _set) = (overlap.problem(), state.set());
+    let _lines = problem.len();
+    let found = state.coordinates(overlap.point())?;
+    match found {
+        None => Ok(()),
+        Some(_) => panic!(rt; "the point is missed"),
+    }
+}
+
+/// The longer set that one which misses the point leads to.
+fn raised<F: Field>(
+    rt: &impl Abort,
+    overlap: &Overlap<'_, F>,
+    state: &Matched<'_, F>,
+) -> Result<String, AllocError>
+    requires { state.now.problem ≡ overlap.now.problem }
+{
+    assert_missed(rt, overlap, state)?;
+    let set = state.set();
+    assert!(rt; set.len() == overlap.set().len());
+    shown_set(state.alloc(), &raise(overlap, set)?)
+}
+
+/// Asserts what the overlap of a chosen set is, as the search finds it, and made of its two lines.
+fn assert_overlap<F: Field>(
+    rt: &impl Abort,
+    alloc: Global,
+    text: &str,
+    chosen: &str,
+    want: &str,
+) -> Result<(), AllocError> {
+    let problem = problem::<F>(rt, alloc, text);
+    let state = ready(rt, alloc, &problem, chosen)?;
+    assert_text(rt, found(rt, &state)?.as_str(), want);
+    assert_text(rt, told(&overlap(rt, &state)?)?.as_str(), want);
+    Ok(())
+}
+
+/// The longer set that another chosen one leads to.
+fn raised_at<F: Field>(
+    rt: &impl Abort,
+    alloc: Global,
+    text: &str,
+    chosen: &str,
+    other: &str,
+) -> Result<String, AllocError> {
+    let problem = problem::<F>(rt, alloc, text);
+    let state = ready(rt, alloc, &problem, chosen)?;
+    let other = ready(rt, alloc, &problem, other)?;
+    raised(rt, &overlap(rt, &state)?, &other)
+}
 
 #[test]
-fn branch_overlaps_at_a_vertex(rt: HostRuntime) -> Result<(), Fail> {
-    let alloc = rt.alloc();
-    let branch = problem::<F2>(&rt, alloc, BRANCH);
-    let state = ready(&rt, alloc, &branch, SECOND_AND_FOURTH)?;
-    let found = overlap(&rt, &state, "1 6", "0 1 0 0 0 0 0")?;
-    let longer = raised(&rt, &found, THIRD_AND_FIFTH)?;
-    assert!(rt; longer.as_str() == "1 3 5" || longer.as_str() == "3 5 6");
+fn fork_overlaps_at_a_vertex(rt: HostRuntime) -> Result<(), Fail> {
+    let want = "1 6: 0 1 0 0 0 0 0";
+    assert_overlap::<F2>(&rt, rt.alloc(), FORK, SECOND_AND_FOURTH, want)?;
+    let raised = raised_at::<F2>(&rt, rt.alloc(), FORK, SECOND_AND_FOURTH, THIRD_AND_FIFTH)?;
+    assert!(rt; raised.as_str() == "1 3 5" || raised.as_str() == "3 5 6");
     Ok(())
 }
 
@@ -76,9 +138,6 @@ const FIRST_AND_SECOND: &str = "choice 1\nsize 2\nset 1 2\nend\n";
 
 #[test]
 fn point_keeps_one_ratio(rt: HostRuntime) -> Result<(), Fail> {
-    let alloc = rt.alloc();
-    let tips = problem::<F251>(&rt, alloc, TIPS);
-    let state = ready(&rt, alloc, &tips, FIRST_AND_SECOND)?;
-    let _found = overlap(&rt, &state, "3 4", "3 0 0 0 0 0")?;
+    assert_overlap::<F251>(&rt, rt.alloc(), TIPS, FIRST_AND_SECOND, "3 4: 3 0 0 0 0 0")?;
     Ok(())
 }

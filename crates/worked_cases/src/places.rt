@@ -2,7 +2,7 @@
 
 ghost use Rattle.std.specs.Prelude.{◌≡◌, IfOk};
 
-use crate::reading::{choice, problem, shown, shown_set};
+use crate::reading::{assert_text, choice, problem, shown, shown_set};
 use field_core::Field;
 use matching_state::{Matched, Place, Start};
 use parity_lines::Problem;
@@ -64,18 +64,42 @@ fn places<F: Field>(rt: &impl Abort, state: &Matched<'_, F>) -> Result<String, A
     Ok(text)
 }
 
-/// Asserts what the places of the lines are, and answers the step.
-fn step_at<F: Field>(
+/// Asserts what the places of the lines over a chosen set are.
+fn assert_places<F: Field>(
     rt: &impl Abort,
     alloc: Global,
     text: &str,
     chosen: &str,
     want: &str,
+) -> Result<(), AllocError> {
+    let problem = problem::<F>(rt, alloc, text);
+    let state = ready(rt, alloc, &problem, chosen)?;
+    assert_text(rt, places(rt, &state)?.as_str(), want);
+    Ok(())
+}
+
+/// The step from a chosen set.
+fn step_from<F: Field>(
+    rt: &impl Abort,
+    alloc: Global,
+    text: &str,
+    chosen: &str,
 ) -> Result<String, AllocError> {
     let problem = problem::<F>(rt, alloc, text);
     let state = ready(rt, alloc, &problem, chosen)?;
-    assert_eq!(rt; places(rt, &state)?.as_str(), want);
     step(&state)
+}
+
+/// Asserts what the step from a chosen set is.
+fn assert_step<F: Field>(
+    rt: &impl Abort,
+    alloc: Global,
+    text: &str,
+    chosen: &str,
+    want: &str,
+) -> Result<(), AllocError> {
+    assert_text(rt, step_from::<F>(rt, alloc, text, chosen)?.as_str(), want);
+    Ok(())
 }
 
 /// Three lines, of which the last two can take the place of the first.
@@ -86,36 +110,10 @@ pub const FIRST: &str = "choice 1\nsize 1\nset 1\nend\n";
 
 const NONE: &str = "choice 1\nsize 0\nset\nend\n";
 
-#[test]
-fn two_lines_take_the_place_of_one(rt: HostRuntime) -> Result<(), Fail> {
-    let step = step_at::<F3>(
-        &rt,
-        rt.alloc(),
-        THREE,
-        FIRST,
-        "inside, exposed 1, exposed 1",
-    )?;
-    assert_eq!(rt; step.as_str(), "2 3");
-    Ok(())
-}
-
 /// A plane, a point, parallel vectors within the plane and outside, the plane again, and a line across.
 const DEGENERATE: &str = "parity 1\nfield 5\ndimension 3\nlines 6\n\
     line 1 0 0 | 0 1 0\nline 0 0 0 | 0 0 0\nline 1 4 0 | 4 1 0\n\
     line 0 1 3 | 0 2 1\nline 1 0 0 | 0 1 0\nline 1 0 2 | 0 0 3\n";
-
-#[test]
-fn degenerate_lines_have_places(rt: HostRuntime) -> Result<(), Fail> {
-    let alloc = rt.alloc();
-    let over_one = "inside, inside, inside, single, inside, exposed 1";
-    assert_eq!(rt;
-        step_at::<F5>(&rt, alloc, DEGENERATE, FIRST, over_one)?.as_str(),
-        "none"
-    );
-    let over_none = "free, inside, single, single, free, free";
-    assert!(rt; step_at::<F5>(&rt, alloc, DEGENERATE, NONE, over_none)?.as_str() != "none");
-    Ok(())
-}
 
 /// A path of five edges as lines.
 pub const PATH: &str = "parity 1\nfield 2\ndimension 6\nlines 5\n\
@@ -124,53 +122,104 @@ pub const PATH: &str = "parity 1\nfield 2\ndimension 6\nlines 5\n\
 
 pub const SECOND_AND_FOURTH: &str = "choice 1\nsize 2\nset 2 4\nend\n";
 
+/// Two lines in a space of no dimension.
+const NOTHING: &str = "parity 1\nfield 2\ndimension 0\nlines 2\nline |\nline |\n";
+
 #[test]
-fn path_has_no_direct_step(rt: HostRuntime) -> Result<(), Fail> {
-    let places = "exposed 2, inside, inside, inside, exposed 4";
-    let step = step_at::<F2>(&rt, rt.alloc(), PATH, SECOND_AND_FOURTH, places)?;
-    assert_eq!(rt; step.as_str(), "none");
+fn lines_have_places(rt: HostRuntime) -> Result<(), Fail> {
+    let alloc = rt.alloc();
+    let exposed = "inside, exposed 1, exposed 1";
+    assert_places::<F3>(&rt, alloc, THREE, FIRST, exposed)?;
+    let single = "inside, inside, inside, single, inside, exposed 1";
+    assert_places::<F5>(&rt, alloc, DEGENERATE, FIRST, single)?;
+    let free = "free, inside, single, single, free, free";
+    assert_places::<F5>(&rt, alloc, DEGENERATE, NONE, free)?;
+    let ends = "exposed 2, inside, inside, inside, exposed 4";
+    assert_places::<F2>(&rt, alloc, PATH, SECOND_AND_FOURTH, ends)?;
+    assert_places::<F2>(&rt, alloc, NOTHING, NONE, "inside, inside")?;
     Ok(())
 }
 
 #[test]
-fn space_of_no_dimension_has_no_free_line(rt: HostRuntime) -> Result<(), Fail> {
-    let text = "parity 1\nfield 2\ndimension 0\nlines 2\nline |\nline |\n";
-    let step = step_at::<F2>(&rt, rt.alloc(), text, NONE, "inside, inside")?;
-    assert_eq!(rt; step.as_str(), "none");
+fn steps_lead_to_longer_sets(rt: HostRuntime) -> Result<(), Fail> {
+    let alloc = rt.alloc();
+    assert_step::<F3>(&rt, alloc, THREE, FIRST, "2 3")?;
+    assert_step::<F5>(&rt, alloc, DEGENERATE, FIRST, "none")?;
+    assert_step::<F2>(&rt, alloc, PATH, SECOND_AND_FOURTH, "none")?;
+    assert_step::<F2>(&rt, alloc, NOTHING, NONE, "none")?;
+    assert!(rt; step_from::<F5>(&rt, alloc, DEGENERATE, NONE)?.as_str() != "none");
+    Ok(())
+}
+
+/// The coordinates of a vector, or `none`.
+fn coordinates<F: Field>(
+    rt: &impl Abort,
+    state: &Matched<'_, F>,
+    v: &[F],
+) -> Result<String, AllocError> {
+    let problem = state.problem();
+    assert!(rt; v.len() == problem.dimension());
+    match state.coordinates(v)? {
+        Some(row) => shown(state.alloc(), row.as_slice()),
+        None => String::from_str(state.alloc(), "none"),
+    }
+}
+
+/// Asserts what the coordinates of the two vectors of a line of its own are.
+fn assert_coordinates<F: Field>(
+    rt: &impl Abort,
+    state: &Matched<'_, F>,
+    line: &str,
+    first: &str,
+    second: &str,
+) -> Result<(), AllocError> {
+    let vectors = problem::<F>(rt, state.alloc(), line);
+    assert!(rt; vectors.len() == 1);
+    assert_text(
+        rt,
+        coordinates(rt, state, vectors.first(0))?.as_str(),
+        first,
+    );
+    assert_text(
+        rt,
+        coordinates(rt, state, vectors.second(0))?.as_str(),
+        second,
+    );
     Ok(())
 }
 
 #[test]
 fn vectors_have_coordinates(rt: HostRuntime) -> Result<(), Fail> {
-    let alloc = rt.alloc();
-    let three = problem::<F3>(&rt, alloc, THREE);
-    let state = ready(&rt, alloc, &three, FIRST)?;
-    assert_eq!(rt; shown_set(alloc, state.set())?.as_str(), "1");
-    let vectors = problem::<F3>(
-        &rt,
-        alloc,
-        "parity 1\nfield 3\ndimension 4\nlines 1\nline 1 1 0 0 | 1 1 0 1\n",
-    );
-    assert!(rt; vectors.len() == 1);
-    let (inside, outside) = (vectors.first(0), vectors.second(0));
-    assert!(rt; inside.len() == state.problem().dimension());
-    assert!(rt; outside.len() == state.problem().dimension());
-    let coordinates = state
-        .coordinates(inside)?
-        .expect(&rt, "a vector of the span");
-    assert_eq!(rt; shown(alloc, coordinates.as_slice())?.as_str(), "1 1");
-    assert!(rt; state.coordinates(outside)?.is_none());
+    let three = problem::<F3>(&rt, rt.alloc(), THREE);
+    let state = ready(&rt, rt.alloc(), &three, FIRST)?;
+    let line = "parity 1\nfield 3\ndimension 4\nlines 1\nline 1 1 0 0 | 1 1 0 1\n";
+    assert_coordinates(&rt, &state, line, "1 1", "none")?;
     Ok(())
+}
+
+/// What a chosen set gives to start from: the set, or a relation of its vectors.
+fn started<F: Field>(
+    rt: &impl Abort,
+    alloc: Global,
+    text: &str,
+    chosen: &str,
+) -> Result<String, AllocError> {
+    let problem = problem::<F>(rt, alloc, text);
+    match Matched::start(alloc, &problem, &choice(rt, alloc, &problem, chosen))? {
+        Start::Ready(state) => shown_set(alloc, state.set()),
+        Start::Relation(row) => shown(alloc, row.as_slice()),
+    }
 }
 
 #[test]
 fn dependent_set_has_a_relation(rt: HostRuntime) -> Result<(), Fail> {
     let alloc = rt.alloc();
+    assert_text(&rt, started::<F3>(&rt, alloc, THREE, FIRST)?.as_str(), "1");
     let text = "parity 1\nfield 256\ndimension 2\nlines 1\nline 83 1 | 1 202\n";
-    let problem = problem::<F256>(&rt, alloc, text);
-    match Matched::start(alloc, &problem, &choice(&rt, alloc, &problem, FIRST))? {
-        Start::Ready(_) => panic!(rt; "the set is dependent"),
-        Start::Relation(row) => assert_eq!(rt; shown(alloc, row.as_slice())?.as_str(), "1 83"),
-    }
+    assert_text(
+        &rt,
+        started::<F256>(&rt, alloc, text, FIRST)?.as_str(),
+        "1 83",
+    );
     Ok(())
 }

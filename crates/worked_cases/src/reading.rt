@@ -22,7 +22,7 @@ pub fn problem<F: Field>(rt: &impl Abort, alloc: Global, text: &str) -> Problem<
     assert!(rt; text.len() <= 4_194_304);
     let mut lexer = Lexer::new(text.as_bytes());
     let field = read_head(&mut lexer).expect(rt, "a head");
-    assert_eq!(rt; field.order(), F::ORDER);
+    assert!(rt; field.order() == F::ORDER);
     read_problem(alloc, &mut lexer).expect(rt, "a problem")
 }
 
@@ -55,6 +55,11 @@ pub fn choice<F: Field>(rt: &impl Abort, alloc: Global, problem: &Problem<F>, te
         Ok(set) => set,
         Err(_) => panic!(rt; "a choice"),
     }
+}
+
+/// Stops where a text isn't the wanted one. An assertion costs its proof once here, and a call of this next to nothing.
+pub fn assert_text(rt: &impl Abort, text: &str, want: &str) {
+    assert_eq!(rt; text, want);
 }
 
 /// The numbers of the values.

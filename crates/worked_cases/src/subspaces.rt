@@ -2,7 +2,7 @@
 
 ghost use Rattle.std.specs.Prelude.{◌≡◌, ◌≤◌, IfOk, length};
 
-use crate::reading::{lines, shown, shown_rows};
+use crate::reading::{assert_text, lines, shown, shown_rows};
 use field_core::{Field, Rows, is_zero};
 use parity_lines::Problem;
 use quotients::{Quotient, Subspace};
@@ -39,8 +39,8 @@ fn assert_basis<F: Field>(
     space: &Subspace<F>,
     want: &str,
 ) -> Result<(), AllocError> {
-    assert_eq!(rt; shown_rows(alloc, space.basis())?.as_str(), want);
-    assert_eq!(rt; space.rank(), space.basis().len());
+    assert_text(rt, shown_rows(alloc, space.basis())?.as_str(), want);
+    assert!(rt; space.rank() == space.basis().len());
     Ok(())
 }
 
@@ -59,57 +59,85 @@ fn assert_meet<F: Field>(
     assert_basis(rt, alloc, &first.sum(&second)?, sum)
 }
 
-#[test]
-fn planes_of_axes_meet_in_an_axis(rt: HostRuntime) -> Result<(), Fail> {
-    let alloc = rt.alloc();
-    let text = "dimension 3\nlines 2\nline 1 0 0 | 0 1 0\nline 0 1 0 | 0 0 1\n";
-    assert_meet::<F2>(&rt, alloc, text, "0 1 0", "1 0 0 / 0 1 0 / 0 0 1")?;
-    assert_meet::<F256>(&rt, alloc, text, "0 1 0", "1 0 0 / 0 1 0 / 0 0 1")?;
-    let planes = lines::<F2>(&rt, alloc, text);
-    let first = span(&rt, alloc, &planes, 0, 1)?;
-    assert!(rt; planes.len() == 2 && first.dimension() == planes.dimension());
-    assert!(rt; !first.contains(planes.second(1))?);
-    assert!(rt; first.contains(planes.first(1))?);
+/// Whether the span of lines has the two vectors of a line.
+fn contained<F: Field>(
+    rt: &impl Abort,
+    alloc: Global,
+    problem: &Problem<F>,
+    span_to: usize,
+    line: usize,
+) -> Result<(bool, bool), AllocError> {
+    let space = span(rt, alloc, problem, 0, span_to)?;
+    assert!(rt; line < problem.len() && space.dimension() == problem.dimension());
+    Ok((
+        space.contains(problem.first(line))?,
+        space.contains(problem.second(line))?,
+    ))
+}
+
+/// Asserts whether the span of the first lines has the two vectors of a line.
+fn assert_contained<F: Field>(
+    rt: &impl Abort,
+    alloc: Global,
+    text: &str,
+    lines_to: (usize, usize),
+    want: (bool, bool),
+) -> Result<(), AllocError> {
+    let problem = lines::<F>(rt, alloc, text);
+    assert!(rt; contained(rt, alloc, &problem, lines_to.0, lines_to.1)? == want);
     Ok(())
 }
 
+const PLANES: &str = "dimension 3\nlines 2\nline 1 0 0 | 0 1 0\nline 0 1 0 | 0 0 1\n";
+
 #[test]
-fn planes_meet_outside_of_the_axes(rt: HostRuntime) -> Result<(), Fail> {
-    for (text, meeting, sum) in [
-        (
-            "dimension 4\nlines 2\nline 1 2 0 1 | 0 0 1 3\nline 1 2 2 2 | 0 1 0 0\n",
-            "1 2 2 2",
-            "1 0 0 1 / 0 1 0 0 / 0 0 1 3",
-        ),
-        (
-            "dimension 4\nlines 2\nline 1 2 0 1 | 0 0 1 3\nline 1 2 0 1 | 0 0 1 3\n",
-            "1 2 0 1 / 0 0 1 3",
-            "1 2 0 1 / 0 0 1 3",
-        ),
-        ("dimension 0\nlines 2\nline |\nline |\n", "", ""),
-    ] {
-        assert_meet::<F5>(&rt, rt.alloc(), text, meeting, sum)?;
-    }
+fn planes_of_axes_meet_in_an_axis(rt: HostRuntime) -> Result<(), Fail> {
+    let (alloc, whole) = (rt.alloc(), "1 0 0 / 0 1 0 / 0 0 1");
+    assert_meet::<F2>(&rt, alloc, PLANES, "0 1 0", whole)?;
+    assert_meet::<F256>(&rt, alloc, PLANES, "0 1 0", whole)?;
+    assert_contained::<F2>(&rt, alloc, PLANES, (1, 1), (true, false))?;
     Ok(())
 }
+
+const SKEW: &str = "dimension 4\nlines 2\nline 1 2 0 1 | 0 0 1 3\nline 1 2 2 2 | 0 1 0 0\n";
+
+const TWICE: &str = "dimension 4\nlines 2\nline 1 2 0 1 | 0 0 1 3\nline 1 2 0 1 | 0 0 1 3\n";
+
+#[test]
+fn planes_meet_outside_of_the_axes(rt: HostRuntime) -> Result<(), Fail> {
+    let alloc = rt.alloc();
+    let sum = "1 0 0 1 / 0 1 0 0 / 0 0 1 3";
+    assert_meet::<F5>(&rt, alloc, SKEW, "1 2 2 2", sum)?;
+    let plane = "1 2 0 1 / 0 0 1 3";
+    assert_meet::<F5>(&rt, alloc, TWICE, plane, plane)?;
+    assert_meet::<F5>(&rt, alloc, "dimension 0\nlines 2\nline |\nline |\n", "", "")?;
+    Ok(())
+}
+
+/// Asserts what the reduced basis of the span of the first lines is.
+fn assert_span<F: Field>(
+    rt: &impl Abort,
+    alloc: Global,
+    text: &str,
+    count: usize,
+    want: &str,
+) -> Result<(), AllocError> {
+    let problem = lines::<F>(rt, alloc, text);
+    let space = span(rt, alloc, &problem, 0, count)?;
+    assert_basis(rt, alloc, &space, want)
+}
+
+const VECTORS: &str =
+    "dimension 4\nlines 3\nline 0 2 4 1 | 1 1 1 1\nline 2 2 2 2 | 0 0 0 0\nline 1 0 0 0 | 0 0 0 0\n";
 
 #[test]
 fn spans_are_reduced(rt: HostRuntime) -> Result<(), Fail> {
     let alloc = rt.alloc();
-    let vectors = lines::<F5>(
-        &rt,
-        alloc,
-        "dimension 4\nlines 3\nline 0 2 4 1 | 1 1 1 1\nline 2 2 2 2 | 0 0 0 0\nline 1 0 0 0 | 0 0 0 0\n",
-    );
-    let space = span(&rt, alloc, &vectors, 0, 2)?;
-    assert_basis(&rt, alloc, &space, "1 0 4 3 / 0 1 2 3")?;
-    assert!(rt; vectors.len() == 3 && space.dimension() == vectors.dimension());
-    assert!(rt; space.contains(vectors.second(0))?);
-    assert!(rt; !space.contains(vectors.first(2))?);
-    let nothing = span(&rt, alloc, &vectors, 0, 0)?;
-    assert_basis(&rt, alloc, &nothing, "")?;
-    assert!(rt; nothing.dimension() == vectors.dimension());
-    assert!(rt; nothing.contains(vectors.second(1))?);
+    assert_span::<F5>(&rt, alloc, VECTORS, 2, "1 0 4 3 / 0 1 2 3")?;
+    assert_contained::<F5>(&rt, alloc, VECTORS, (2, 0), (true, true))?;
+    assert_contained::<F5>(&rt, alloc, VECTORS, (2, 2), (false, true))?;
+    assert_span::<F5>(&rt, alloc, VECTORS, 0, "")?;
+    assert_contained::<F5>(&rt, alloc, VECTORS, (0, 1), (false, true))?;
     Ok(())
 }
 
@@ -139,6 +167,30 @@ fn lifted<F: Field>(
     shown(alloc, quotient.lift(w)?.as_slice())
 }
 
+/// Asserts what the vector modulo the point is.
+fn assert_projected<F: Field>(
+    rt: &impl Abort,
+    alloc: Global,
+    point: &[F],
+    v: &[F],
+    want: &str,
+) -> Result<(), AllocError> {
+    assert_text(rt, projected(rt, alloc, point, v)?.as_str(), want);
+    Ok(())
+}
+
+/// Asserts what the vector is whose projection modulo the point is the shorter one.
+fn assert_lifted<F: Field>(
+    rt: &impl Abort,
+    alloc: Global,
+    point: &[F],
+    w: &[F],
+    want: &str,
+) -> Result<(), AllocError> {
+    assert_text(rt, lifted(rt, alloc, point, w)?.as_str(), want);
+    Ok(())
+}
+
 #[test]
 fn vectors_are_divided_by_a_point(rt: HostRuntime) -> Result<(), Fail> {
     let alloc = rt.alloc();
@@ -146,18 +198,9 @@ fn vectors_are_divided_by_a_point(rt: HostRuntime) -> Result<(), Fail> {
     let shorter = lines::<F3>(&rt, alloc, "dimension 2\nlines 1\nline 1 2 | 0 0\n");
     assert!(rt; whole.len() == 1 && shorter.len() == 1);
     let point = whole.first(0);
-    assert_eq!(rt;
-        projected(&rt, alloc, point, whole.second(0))?.as_str(),
-        "1 2"
-    );
-    assert_eq!(rt; projected(&rt, alloc, point, point)?.as_str(), "0 0");
-    assert_eq!(rt;
-        lifted(&rt, alloc, point, shorter.first(0))?.as_str(),
-        "1 0 2"
-    );
-    assert_eq!(rt;
-        lifted(&rt, alloc, point, shorter.second(0))?.as_str(),
-        "0 0 0"
-    );
+    assert_projected(&rt, alloc, point, whole.second(0), "1 2")?;
+    assert_projected(&rt, alloc, point, point, "0 0")?;
+    assert_lifted(&rt, alloc, point, shorter.first(0), "1 0 2")?;
+    assert_lifted(&rt, alloc, point, shorter.second(0), "0 0 0")?;
     Ok(())
 }

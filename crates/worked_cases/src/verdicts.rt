@@ -24,51 +24,57 @@ fn judged<F: Field>(
 const STAR: &str =
     "dimension 4\nlines 3\nline 1 0 0 0 | 0 1 0 0\nline 1 0 0 0 | 0 0 1 0\nline 1 0 0 0 | 0 0 0 1\n";
 
-/// Answers to the star, and the verdicts on them.
-const ANSWERS: [(&str, Verdict); 9] = [
-    (
-        "answer 1\nsize 1\nset 1\nkernel 1\nvector 1 0 0 0\nparts 3\npart 1\npart 2\npart 3\nend\n",
-        Verdict::Yes,
-    ),
-    (
-        "answer 1\nsize 2\nset 1 2\nkernel 1\nvector 1 0 0 0\nparts 3\npart 1\npart 2\npart 3\nend\n",
-        Verdict::Dependent,
-    ),
-    (
-        "answer 1\nsize 1\nset 1\nkernel 2\nvector 1 0 0 0\nvector 1 0 0 0\nparts 0\nend\n",
-        Verdict::KernelDependent,
-    ),
-    (
-        "answer 1\nsize 1\nset 1\nkernel 1\nvector 0 0 0 0\nparts 3\npart 1\npart 2\npart 3\nend\n",
-        Verdict::KernelDependent,
-    ),
-    (
-        "answer 1\nsize 1\nset 1\nkernel 1\nvector 1 0 0 0\nparts 2\npart 1\npart 3\nend\n",
-        Verdict::PartsMissing(1),
-    ),
-    (
-        "answer 1\nsize 1\nset 1\nkernel 1\nvector 1 0 0 0\nparts 2\npart 1\npart 1\nend\n",
-        Verdict::PartsMissing(1),
-    ),
-    (
-        "answer 1\nsize 1\nset 1\nkernel 1\nvector 1 0 0 0\nparts 2\npart 1 2 3\npart 2 3\nend\n",
-        Verdict::PartsTwice(1),
-    ),
-    (
-        "answer 1\nsize 1\nset 1\nkernel 1\nvector 1 0 0 0\nparts 1\npart 1 2 3\nend\n",
-        Verdict::BoundOff { size: 1, bound: 2 },
-    ),
-    (
-        "answer 1\nsize 0\nset\nkernel 0\nparts 1\npart 1 2 3\nend\n",
-        Verdict::BoundOff { size: 0, bound: 2 },
-    ),
-];
+/// Asserts what the verdict on an answer is.
+fn assert_verdict<F: Field>(
+    rt: &impl Abort,
+    alloc: Global,
+    problem: &Problem<F>,
+    text: &str,
+    want: Verdict,
+) -> Result<(), AllocError> {
+    assert_eq!(rt; judged(rt, alloc, problem, text)?, want);
+    Ok(())
+}
+
+const GOOD: &str =
+    "answer 1\nsize 1\nset 1\nkernel 1\nvector 1 0 0 0\nparts 3\npart 1\npart 2\npart 3\nend\n";
+
+const TWO_LINES: &str =
+    "answer 1\nsize 2\nset 1 2\nkernel 1\nvector 1 0 0 0\nparts 3\npart 1\npart 2\npart 3\nend\n";
+
+const KERNEL_TWICE: &str =
+    "answer 1\nsize 1\nset 1\nkernel 2\nvector 1 0 0 0\nvector 1 0 0 0\nparts 0\nend\n";
+
+const KERNEL_ZERO: &str =
+    "answer 1\nsize 1\nset 1\nkernel 1\nvector 0 0 0 0\nparts 3\npart 1\npart 2\npart 3\nend\n";
+
+const NO_SECOND: &str =
+    "answer 1\nsize 1\nset 1\nkernel 1\nvector 1 0 0 0\nparts 2\npart 1\npart 3\nend\n";
+
+const FIRST_TWICE: &str =
+    "answer 1\nsize 1\nset 1\nkernel 1\nvector 1 0 0 0\nparts 2\npart 1\npart 1\nend\n";
+
+const SECOND_TWICE: &str =
+    "answer 1\nsize 1\nset 1\nkernel 1\nvector 1 0 0 0\nparts 2\npart 1 2 3\npart 2 3\nend\n";
+
+const ONE_PART: &str =
+    "answer 1\nsize 1\nset 1\nkernel 1\nvector 1 0 0 0\nparts 1\npart 1 2 3\nend\n";
+
+const NO_KERNEL: &str = "answer 1\nsize 0\nset\nkernel 0\nparts 1\npart 1 2 3\nend\n";
 
 fn assert_verdicts<F: Field>(rt: &impl Abort, alloc: Global) -> Result<(), AllocError> {
     let star = lines::<F>(rt, alloc, STAR);
-    for (text, want) in ANSWERS {
-        assert_eq!(rt; judged(rt, alloc, &star, text)?, want, "at {text:?}");
-    }
+    assert_verdict(rt, alloc, &star, GOOD, Verdict::Yes)?;
+    assert_verdict(rt, alloc, &star, TWO_LINES, Verdict::Dependent)?;
+    assert_verdict(rt, alloc, &star, KERNEL_TWICE, Verdict::KernelDependent)?;
+    assert_verdict(rt, alloc, &star, KERNEL_ZERO, Verdict::KernelDependent)?;
+    assert_verdict(rt, alloc, &star, NO_SECOND, Verdict::PartsMissing(1))?;
+    assert_verdict(rt, alloc, &star, FIRST_TWICE, Verdict::PartsMissing(1))?;
+    assert_verdict(rt, alloc, &star, SECOND_TWICE, Verdict::PartsTwice(1))?;
+    let two = Verdict::BoundOff { size: 1, bound: 2 };
+    assert_verdict(rt, alloc, &star, ONE_PART, two)?;
+    let two = Verdict::BoundOff { size: 0, bound: 2 };
+    assert_verdict(rt, alloc, &star, NO_KERNEL, two)?;
     Ok(())
 }
 
@@ -91,26 +97,22 @@ const HUB: &str = "parity 1\nfield 2\ndimension 10\nlines 9\n\
     line 0 0 0 0 0 0 0 0 1 0 | 0 0 0 0 0 0 0 0 0 1\n\
     line 1 0 0 0 0 0 0 1 0 0 | 0 0 0 0 0 0 0 0 0 1\n";
 
+const HUB_KERNEL: &str =
+    "answer 1\nsize 4\nset 1 3 4 7\nkernel 1\nvector 1 0 0 0 0 0 0 0 0 0\nparts 3\npart 1 2 3\npart 4 5 6\npart 7 8 9\nend\n";
+
+const HUB_NO_KERNEL: &str =
+    "answer 1\nsize 4\nset 1 3 4 7\nkernel 0\nparts 3\npart 1 2 3\npart 4 5 6\npart 7 8 9\nend\n";
+
+const HUB_FIVE: &str =
+    "answer 1\nsize 5\nset 1 3 4 6 7\nkernel 0\nparts 3\npart 1 2 3\npart 4 5 6\npart 7 8 9\nend\n";
+
 #[test]
 fn hub_of_three_triangles(rt: HostRuntime) -> Result<(), Fail> {
     let alloc = rt.alloc();
     let hub = problem::<F2>(&rt, alloc, HUB);
-    let answers = [
-        (
-            "answer 1\nsize 4\nset 1 3 4 7\nkernel 1\nvector 1 0 0 0 0 0 0 0 0 0\nparts 3\npart 1 2 3\npart 4 5 6\npart 7 8 9\nend\n",
-            Verdict::Yes,
-        ),
-        (
-            "answer 1\nsize 4\nset 1 3 4 7\nkernel 0\nparts 3\npart 1 2 3\npart 4 5 6\npart 7 8 9\nend\n",
-            Verdict::BoundOff { size: 4, bound: 6 },
-        ),
-        (
-            "answer 1\nsize 5\nset 1 3 4 6 7\nkernel 0\nparts 3\npart 1 2 3\npart 4 5 6\npart 7 8 9\nend\n",
-            Verdict::Dependent,
-        ),
-    ];
-    for (text, want) in answers {
-        assert_eq!(rt; judged(&rt, alloc, &hub, text)?, want, "at {text:?}");
-    }
+    assert_verdict(&rt, alloc, &hub, HUB_KERNEL, Verdict::Yes)?;
+    let six = Verdict::BoundOff { size: 4, bound: 6 };
+    assert_verdict(&rt, alloc, &hub, HUB_NO_KERNEL, six)?;
+    assert_verdict(&rt, alloc, &hub, HUB_FIVE, Verdict::Dependent)?;
     Ok(())
 }

@@ -3,13 +3,13 @@
 ghost use Rattle.std.specs.Prelude.{◌<◌, All, length};
 
 use crate::places::{FIRST, PATH, SECOND_AND_FOURTH, THREE, ready};
-use crate::reading::{choice, problem, shown_set};
+use crate::reading::{assert_text, choice, problem, shown_set};
 use exchanges::{Moved, Stepped, move_toward, step_toward, swap};
 use field_core::{Field, Rows};
 use matching_state::{Matched, Place};
 use parity_lines::LineSet;
 use small_fields::{F2, F3};
-use std::alloc::AllocError;
+use std::alloc::{AllocError, Global};
 use std::process::Abort;
 use std::test::Fail;
 
@@ -55,37 +55,81 @@ fn walk<F: Field>(state: &mut Matched<'_, F>, target: &LineSet) -> Result<String
     }
 }
 
+/// A step toward the set that a text chooses.
+fn step_to<F: Field>(
+    rt: &impl Abort,
+    state: &mut Matched<'_, F>,
+    text: &str,
+) -> Result<String, AllocError> {
+    let target = choice(rt, state.alloc(), state.problem(), text);
+    step(state, &target)
+}
+
+/// Asserts what the set is after a line has taken the place of another.
+fn assert_exchange<F: Field>(
+    rt: &impl Abort,
+    alloc: Global,
+    text: &str,
+    chosen: &str,
+    lines: (usize, usize),
+    want: &str,
+) -> Result<(), AllocError> {
+    let problem = problem::<F>(rt, alloc, text);
+    let mut state = ready(rt, alloc, &problem, chosen)?;
+    exchange(rt, &mut state, lines.0, lines.1)?;
+    assert_text(rt, shown_set(alloc, state.set())?.as_str(), want);
+    Ok(())
+}
+
+/// Asserts what comes of a walk, and the set after it.
+fn assert_walk<F: Field>(
+    rt: &impl Abort,
+    alloc: Global,
+    texts: (&str, &str, &str),
+    want: &str,
+    set: &str,
+) -> Result<(), AllocError> {
+    let problem = problem::<F>(rt, alloc, texts.0);
+    let mut state = ready(rt, alloc, &problem, texts.1)?;
+    let target = choice(rt, alloc, state.problem(), texts.2);
+    assert_text(rt, walk(&mut state, &target)?.as_str(), want);
+    assert_text(rt, shown_set(alloc, state.set())?.as_str(), set);
+    Ok(())
+}
+
+/// Asserts what comes of the next step.
+fn assert_step<F: Field>(
+    rt: &impl Abort,
+    state: &mut Matched<'_, F>,
+    text: &str,
+    want: &str,
+) -> Result<(), AllocError> {
+    assert_text(rt, step_to(rt, state, text)?.as_str(), want);
+    Ok(())
+}
+
+/// The first and the last edge of the path.
 const FIRST_AND_LAST: &str = "choice 1\nsize 2\nset 1 5\nend\n";
 
 #[test]
 fn exposed_line_takes_the_place(rt: HostRuntime) -> Result<(), Fail> {
-    let alloc = rt.alloc();
-    let three = problem::<F3>(&rt, alloc, THREE);
-    let mut state = ready(&rt, alloc, &three, FIRST)?;
-    exchange(&rt, &mut state, 0, 1)?;
-    assert_eq!(rt; shown_set(alloc, state.set())?.as_str(), "2");
+    assert_exchange::<F3>(&rt, rt.alloc(), THREE, FIRST, (0, 1), "2")?;
     Ok(())
 }
 
 #[test]
 fn path_is_walked_to_its_ends(rt: HostRuntime) -> Result<(), Fail> {
-    let alloc = rt.alloc();
-    let path = problem::<F2>(&rt, alloc, PATH);
-    let mut state = ready(&rt, alloc, &path, SECOND_AND_FOURTH)?;
-    let ends = choice(&rt, alloc, state.problem(), FIRST_AND_LAST);
-    assert_eq!(rt; walk(&mut state, &ends)?.as_str(), "settled");
-    assert_eq!(rt; shown_set(alloc, state.set())?.as_str(), "1 5");
+    let ends = (PATH, SECOND_AND_FOURTH, FIRST_AND_LAST);
+    assert_walk::<F2>(&rt, rt.alloc(), ends, "settled", "1 5")?;
     Ok(())
 }
 
 #[test]
 fn path_is_walked_step_by_step(rt: HostRuntime) -> Result<(), Fail> {
-    let alloc = rt.alloc();
-    let path = problem::<F2>(&rt, alloc, PATH);
-    let mut state = ready(&rt, alloc, &path, SECOND_AND_FOURTH)?;
-    for want in ["1 for 2", "5 for 4", "settled"] {
-        let ends = choice(&rt, alloc, state.problem(), FIRST_AND_LAST);
-        assert_eq!(rt; step(&mut state, &ends)?.as_str(), want);
-    }
+    let path = problem::<F2>(&rt, rt.alloc(), PATH);
+    let mut state = ready(&rt, rt.alloc(), &path, SECOND_AND_FOURTH)?;
+    assert_step(&rt, &mut state, FIRST_AND_LAST, "1 for 2")?;
+    assert_step(&rt, &mut state, FIRST_AND_LAST, "5 for 4")?;
+    assert_step(&rt, &mut state, FIRST_AND_LAST, "settled")?;
     Ok(())
 }
