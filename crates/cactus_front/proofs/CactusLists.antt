@@ -3,10 +3,10 @@ use Rattle.std.proofs.Common.{◌≡◌, ℕ, ◌<◌, List, [], ◌∷◌, All,
 use Rattle.std.proofs.lemmas.List.{length-map, get_or-map}
 use Rattle.linear_algebra.specs.Scalars.{Scalars, IsField}
 use Rattle.linear_algebra.specs.Vectors.{vector_sum, multiple}
-use Rattle.linear_algebra.proofs.VectorLaws.{vector_sum-vector}
+use Rattle.linear_algebra.proofs.VectorLaws.{vector_sum-vector, multiple-one}
 use Rattle.graph_theory.specs.Cacti.{corners}
 use Rattle.graph_problems.specs.GraphLines.{unit_vector}
-use Rattle.graph_problems.proofs.UnitVectors.{unit-vector, multiple-one}
+use Rattle.graph_problems.proofs.UnitVectors.{unit-vector}
 use Rattle.cactus_front.specs.CactusLists.{triple_of}
 
 pub sum-length : (S : Scalars) → IsField S → (n a b : ℕ) → length (vector_sum S (unit_vector S n a) (unit_vector S n b)) ≡ n

@@ -13,7 +13,8 @@ use Rattle.parity_lines.specs.Problems.{ParityProblem, IsProblem, vectors_at}
 use Rattle.parity_lines.specs.PartLists.{IsPartList, ArePartLists}
 use Rattle.parity_lines.proofs.Border.{vectors_at-vectors}
 use Rattle.parity_lines.proofs.IndependentLines.{length-vectors_at}
-use Rattle.cert_check.specs.Verdicts.{IsDisjoint, halves_over}
+use Rattle.cert_check.specs.Verdicts.{IsDisjoint}
+use Rattle.parity_lines.specs.Certificates.{halves_over}
 use Rattle.cert_check.proofs.Lengths.{lengths_le}
 
 -- what a part adds to the basis as it was

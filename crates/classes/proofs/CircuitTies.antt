@@ -14,7 +14,7 @@ use Rattle.classes.specs.Supports.{HaveCommonSupport}
 use Rattle.classes.proofs.StepTies.{into_within, overlap_of_tuples, step_of_exchange}
 use Rattle.matching_state.specs.Missing.{Misses}
 use Rattle.matching_state.specs.Overlaps.{InSupport, IsOverlap}
-use Rattle.matching_state.specs.Places.{IsExposed, IsOuter}
+use Rattle.matching_state.specs.LinePlaces.{IsExposed, IsOuter}
 use Rattle.matching_state.proofs.Ties.{pairs, exposed_of, coordinates_vector, component_in_support, misses_from}
 use Rattle.matching_state.proofs.Tips.{outer_of}
 use Rattle.matching_state.proofs.TipsOfTuples.{exposed_of_tuples, support_of_tuples}

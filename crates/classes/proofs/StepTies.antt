@@ -16,7 +16,7 @@ use Rattle.exchanges.proofs.SpansOfLines.{spanned_of_within}
 use Rattle.exchanges.specs.Exchanges.{IsExchangeToward}
 use Rattle.matching_state.specs.Missing.{Misses}
 use Rattle.matching_state.specs.Overlaps.{IsOverlap}
-use Rattle.matching_state.specs.Places.{IsOuter}
+use Rattle.matching_state.specs.LinePlaces.{IsOuter}
 use Rattle.matching_state.proofs.StepSets.{swap_of}
 use Rattle.matching_state.proofs.Ties.{pairs, one_line, exposed_of, coordinates_vector, component_in_support, misses_to}
 use Rattle.matching_state.proofs.Tips.{outer_of, rank_of_outers}

@@ -2,7 +2,7 @@
 use Rattle.std.proofs.Common.{ℕ, ◌<◌, List, length}
 use Rattle.linear_algebra.specs.Scalars.{Scalars, IsField}
 use Rattle.classes.specs.Supports.{HasSupport}
-use Rattle.matching_state.specs.Places.{IsExposed, IsTip}
+use Rattle.matching_state.specs.LinePlaces.{IsExposed, IsTip}
 use Rattle.matching_state.specs.Supports.{IsSupport}
 use Rattle.matching_state.proofs.Tips.{same_components}
 use Rattle.parity_lines.specs.LineSets.{IsIndependentSet}

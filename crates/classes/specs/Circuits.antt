@@ -5,7 +5,7 @@ use Rattle.linear_algebra.specs.Scalars.{Scalars, IsField}
 use Rattle.linear_algebra.proofs.Coordinates.{tuple, space}
 use Rattle.linear_algebra.proofs.Elements.{Element}
 use Rattle.matching_state.specs.Overlaps.{InSupport}
-use Rattle.matching_state.specs.Places.{IsExposed}
+use Rattle.matching_state.specs.LinePlaces.{IsExposed}
 use Rattle.parity_lines.proofs.Border.{tuples_at}
 use Rattle.parity_lines.specs.Problems.{ParityProblem}
 use Rattle.parity_theory.proofs.Circuits.{HasInCircuit}

@@ -2,7 +2,7 @@
 use Rattle.std.specs.Prelude.{◌≡◌, ℕ, suc, ◌<◌, List, length, None}
 use Rattle.linear_algebra.specs.Scalars.{Scalars}
 use Rattle.matching_state.specs.Overlaps.{IsOverlap}
-use Rattle.matching_state.specs.Steps.{TellsDirectStep}
+use Rattle.matching_state.specs.DirectSteps.{TellsDirectStep}
 use Rattle.classes.specs.declared.ended.Ended.{Ended}
 use Rattle.classes.specs.declared.ended.Ended.TheVariants.{Larger, Overlapping}
 use Rattle.parity_lines.specs.LineSets.{IsIndependentSet}

@@ -4,7 +4,7 @@ use Rattle.families.specs.Families.{IsCommon, IsFamily, SetFamily}
 use Rattle.linear_algebra.specs.Scalars.{Scalars}
 use Rattle.linear_algebra.specs.Vectors.{IsVector, zero_vector}
 use Rattle.matching_state.specs.Overlaps.{IsOverlap}
-use Rattle.matching_state.specs.Steps.{TellsDirectStep}
+use Rattle.matching_state.specs.DirectSteps.{TellsDirectStep}
 use Rattle.parity_lines.specs.LineSets.{IsIndependentSet}
 use Rattle.parity_lines.specs.Problems.{ParityProblem}
 use Rattle.classes.specs.Divisions.{ArePartsOfBound}

@@ -3,7 +3,7 @@ use Rattle.std.specs.Prelude.{◌≡◌, ◌≢◌, ℕ, ◌<◌, ◌↔◌, Lis
 use Rattle.std.specs.List.{Contains}
 use Rattle.linear_algebra.specs.Scalars.{Scalars}
 use Rattle.matching_state.specs.Overlaps.{InSupport}
-use Rattle.matching_state.specs.Places.{IsExposed}
+use Rattle.matching_state.specs.LinePlaces.{IsExposed}
 use Rattle.parity_lines.specs.Problems.{ParityProblem}
 
 -- e is exposed over M, and L are the lines of its support

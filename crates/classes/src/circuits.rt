@@ -1,7 +1,7 @@
 //! Circuits: from a set that separates an exposed line and a line of its support to an end of the call.
 
 ghost use Rattle.std.specs.Prelude.{◌≡◌, ◌<◌, [], ◌∷◌, ℕ, List, IfOk, MatchOption, length};
-ghost use Rattle.matching_state.specs.Places.{IsExposed, IsOuter};
+ghost use Rattle.matching_state.specs.LinePlaces.{IsExposed, IsOuter};
 ghost use Rattle.linear_algebra.specs.Scalars.{IsField};
 ghost use Rattle.classes.specs.Circuits.{GoesOnInCircuit, IsInCircuit, IsPulledApart};
 ghost use Rattle.classes.specs.Supports.{HaveCommonSupport};

@@ -2,7 +2,7 @@
 
 ghost use Rattle.std.specs.Prelude.{◌≡◌, ◌≢◌, ◌<◌, ◌↔◌, ℕ, IfOk, IsTrue, MatchOption, length, slice_index};
 ghost use Rattle.std.specs.List.{Contains};
-ghost use Rattle.matching_state.specs.Places.{IsExposed};
+ghost use Rattle.matching_state.specs.LinePlaces.{IsExposed};
 ghost use Rattle.classes.specs.Supports.{HasSupport, HaveCommonSupport, IsStray, IsClosed, StaysInClass};
 
 use field_core::Field;

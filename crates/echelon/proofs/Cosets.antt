@@ -4,7 +4,7 @@ use Rattle.std.proofs.lemmas.List.{get_or-replicate}
 use Rattle.echelon.proofs.Transfers.{coordinate, coordinate-linear, coordinate-zero, zero-coordinate}
 use Rattle.echelon.specs.Residues.{IsLeading, IsResidue, IsCongruent}
 use Rattle.linear_algebra.proofs.Combinations.{span_vector}
-use Rattle.linear_algebra.proofs.Coordinates.{tuple, space, list, list-vector, list-tuple, tuple-list, list-plus, list-null}
+use Rattle.linear_algebra.proofs.Coordinates.{tuple, space, list, list-vector, list-is, list-tuple, tuple-list, list-plus, list-null}
 use Rattle.linear_algebra.proofs.SpanLaws.{span_zero}
 use Rattle.linear_algebra.proofs.Elements.{Element, scalar_field}
 use Rattle.linear_algebra.proofs.Transfer.{tuples_of, span_to_tuples, span_from_tuples}
@@ -74,7 +74,7 @@ module _ (S : Scalars) (F : IsField S) (d : ℕ) (vs : List (List ℕ)) (V : Are
       record {
         added = list S d u;
         in_span = from_span u (span_minus (scalar_field S F) (space S F d) (tuples_of S F d vs) z y (to_span q.added q.in_span) (to_span r.added r.in_span));
-        sum = sym (list-tuple S F d v h) ∙ ap (list S d) moved ∙ list-plus S F d (tuple S F d w) u ∙ ap (λ x. vector_sum S x (list S d u)) (list-tuple S F d w k);
+        sum = list-is S F d v h moved ∙ list-plus S F d (tuple S F d w) u ∙ ap (λ x. vector_sum S x (list S d u)) (list-tuple S F d w k);
       }
 
   -- the difference of the residues of congruent vectors
@@ -115,7 +115,7 @@ module _ (S : Scalars) (F : IsField S) (d : ℕ) (vs : List (List ℕ)) (V : Are
     where
       go : (minus_of (tuple S F d a) (tuple S F d b) ≡ null) ⊎ ((p : ℕ) × (p < d) × (coordinate S F d p (minus_of (tuple S F d a) (tuple S F d b)) ≢ (scalar_field S F).zero)
           × ((m : ℕ) → m < p → coordinate S F d m (minus_of (tuple S F d a) (tuple S F d b)) ≡ (scalar_field S F).zero)) → a ≡ b
-      go (inl e) = sym (list-tuple S F d a r.vector) ∙ ap (list S d) (same_when_null (scalar_field S F) (space S F d) (tuple S F d a) (tuple S F d b) e) ∙ list-tuple S F d b q.vector
+      go (inl e) = list-is S F d a r.vector (same_when_null (scalar_field S F) (space S F d) (tuple S F d a) (tuple S F d b) e) ∙ list-tuple S F d b q.vector
       go (inr l) =
           let there = is_leading (minus_of (tuple S F d a) (tuple S F d b)) l.0 (difference_in v w a b h k c r q) l.1 l.2 l.3 in
           absurd (l.2 (coordinate_zero (tuple S F d a) (tuple S F d b) l.0

@@ -13,12 +13,12 @@ use Rattle.vector_spaces.proofs.Space.{null-plus, move, linear}
 use Rattle.linear_algebra.specs.Scalars.{Scalars, IsScalar, IsField}
 use Rattle.linear_algebra.specs.Vectors.{IsVector, AreVectors, zero_vector, vector_sum, multiple}
 use Rattle.linear_algebra.specs.Spans.{combination, Combines, InSpan, IsIndependent}
-use Rattle.linear_algebra.proofs.Coordinates.{tuple, list, space, list-tuple, element, element-product, list-null}
+use Rattle.linear_algebra.proofs.Coordinates.{tuple, space, list-is, list-tuple, element, element-product, list-null}
 use Rattle.linear_algebra.proofs.Combinations.{combination-multiple, combination-vector, combination-append}
 use Rattle.linear_algebra.proofs.IndependenceLaws.{independent_push}
 use Rattle.linear_algebra.proofs.VectorLaws.{multiple-vector, tuple-zero, tuple-sum, tuple-multiple, zero-vector, vector_sum-vector}
 use Rattle.echelon.specs.Leads.{LeadsAt}
-use Rattle.echelon.specs.Steps.{reduced, taken, IsStep, IsEchelon, IsNextStep, IsNegated, eliminated}
+use Rattle.echelon.specs.Eliminations.{reduced, taken, IsStep, IsEchelon, IsNextStep, IsNegated, eliminated}
 use Rattle.echelon.specs.declared.step.Step.{Step}
 use Rattle.echelon.proofs.Reduction.{taken-vectors, span_removed, is_elimination}
 
@@ -30,8 +30,7 @@ module _ (S : Scalars) (F : IsField S) (d : ℕ) where
       let s = space S F d in
       let gone : s.null ≡ s.◌⊕◌ (tuple S F d v) (tuple S F d y) = sym (tuple-zero S F d) ∙ ap (tuple S F d) (sym z) ∙ tuple-sum S F d v y h k in
       let moved : s.◌·◌ f.minus (tuple S F d y) ≡ tuple S F d v = sym (null-plus f s _) ∙ move f s s.null (tuple S F d y) (tuple S F d v) gone in
-      sym (list-tuple S F d (multiple S m y) (multiple-vector S F d m y l k))
-      ∙ ap (list S d) (tuple-multiple S F d m y l k ∙ ap (λ c. s.◌·◌ c (tuple S F d y)) (element-minus S F m l e) ∙ moved)
+      list-is S F d (multiple S m y) (multiple-vector S F d m y l k) (tuple-multiple S F d m y l k ∙ ap (λ c. s.◌·◌ c (tuple S F d y)) (element-minus S F m l e) ∙ moved)
       ∙ list-tuple S F d v h
 
   -- coefficients of what made v zero, negated, combine to v
@@ -114,8 +113,7 @@ module _ (S : Scalars) (F : IsField S) (d : ℕ) {X : Type 0} (ss : List (Step X
         let cv = multiple-vector S F d c v a h in
         let z = zero-vector S F d in
         let w = vector_sum-vector S F d (multiple S c v) (zero_vector S d) cv z in
-        sym (list-tuple S F d _ (vector_sum-vector S F d _ _ cy w))
-        ∙ ap (list S d) (simp (tuple-sum S F d (multiple S c y) (vector_sum S (multiple S c v) (zero_vector S d)) cy w, tuple-sum S F d (multiple S c v) (zero_vector S d) cv z, tuple-multiple S F d c y a b, tuple-multiple S F d c v a h, tuple-zero S F d, tuple-multiple S F d c (vector_sum S v y) a (vector_sum-vector S F d v y h b), tuple-sum S F d v y h b, linear))
+        list-is S F d _ (vector_sum-vector S F d _ _ cy w) (simp (tuple-sum S F d (multiple S c y) (vector_sum S (multiple S c v) (zero_vector S d)) cy w, tuple-sum S F d (multiple S c v) (zero_vector S d) cv z, tuple-multiple S F d c y a b, tuple-multiple S F d c v a h, tuple-zero S F d, tuple-multiple S F d c (vector_sum S v y) a (vector_sum-vector S F d v y h b), tuple-sum S F d v y h b, linear))
         ∙ list-tuple S F d _ (multiple-vector S F d c (vector_sum S v y) a (vector_sum-vector S F d v y h b))
 
     new_coefficients : IsVector S (length ss + 1) s.coefficients
@@ -143,8 +141,7 @@ module _ (S : Scalars) (F : IsField S) (d : ℕ) {X : Type 0} (ss : List (Step X
     new_removed : eliminated S s rest ≡ zero_vector S d
     new_removed =
         let i : IsElimination S F d s = record { row_in = row_in; pivot_in = subst (λ m. m < d) (sym n.pivot) p_in } in
-        sym (list-tuple S F d (eliminated S s rest) (eliminated-vector S F d s rest i rest_in))
-        ∙ ap (list S d) (tuple-eliminated S F d s rest i rest_in
+        list-is S F d (eliminated S s rest) (eliminated-vector S F d s rest i rest_in) (tuple-eliminated S F d s rest i rest_in
         ∙ ap₂ (λ q t. (space S F d).◌⊕◌ (tuple S F d rest) ((space S F d).◌·◌ (coordinate S F d q (tuple S F d rest)) t)) n.pivot (ap (tuple S F d) n.row ∙ tuple-multiple S F d n.factor rest n.scalar rest_in)
         ∙ removed_by_next (scalar_field S F) (space S F d) (coordinate S F d) (coordinate-linear S F d) p (element S F n.factor) (tuple S F d rest) element_at_pivot)
         ∙ list-null S F d

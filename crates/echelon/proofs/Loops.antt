@@ -7,7 +7,7 @@ use Rattle.linear_algebra.specs.Vectors.{IsVector, vector_sum, multiple}
 use Rattle.linear_algebra.specs.Spans.{combination}
 use Rattle.linear_algebra.proofs.Combinations.{combination-sum, combination-multiple, combination-vector, combination-push_zero}
 use Rattle.linear_algebra.proofs.VectorLaws.{multiple-vector, vector_sum_assoc, vector_sum-zero}
-use Rattle.echelon.specs.Steps.{eliminated, reduced, taken, IsStep, IsEchelon}
+use Rattle.echelon.specs.Eliminations.{eliminated, reduced, taken, IsStep, IsEchelon}
 use Rattle.echelon.specs.declared.step.Step.{Step}
 use Rattle.std.specs.List.{refill}
 use Rattle.field_core.proofs.Refills.{refill_same}

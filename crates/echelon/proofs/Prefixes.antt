@@ -7,7 +7,7 @@ use Rattle.linear_algebra.specs.Scalars.{Scalars, IsField}
 use Rattle.linear_algebra.specs.Vectors.{AreVectors, IsVector}
 use Rattle.linear_algebra.specs.Spans.{combination, IsIndependent}
 use Rattle.linear_algebra.proofs.IndependenceLaws.{independent_left}
-use Rattle.echelon.specs.Steps.{reduced, taken, IsStep, IsEchelon}
+use Rattle.echelon.specs.Eliminations.{reduced, taken, IsStep, IsEchelon}
 use Rattle.echelon.specs.declared.step.Step.{Step}
 use Rattle.echelon.proofs.Insertion.{length-taken, combination-front}
 

@@ -2,8 +2,8 @@
 use Rattle.std.proofs.Common.{◌≡◌, ℕ, ◌+◌, ◌<◌, List, [], ◌∷◌, ◌++◌, length, map, take, drop, refl, sym, ap, ◌∙◌, subst, take-append-drop}
 use Rattle.echelon.proofs.Eliminations.{reduced-linear, reduced_kills}
 use Rattle.echelon.proofs.Transfers.{IsElimination, coordinate, coordinate-linear, elimination_of, reduced_tuple, tuple-reduced, reduced-vector}
-use Rattle.echelon.specs.Steps.{eliminated, reduced, taken, IsStep, IsEchelon}
-use Rattle.linear_algebra.proofs.Coordinates.{tuple, list, list-tuple, list-null, space}
+use Rattle.echelon.specs.Eliminations.{eliminated, reduced, taken, IsStep, IsEchelon}
+use Rattle.linear_algebra.proofs.Coordinates.{tuple, list-is, list-null, space}
 use Rattle.linear_algebra.proofs.Elements.{Element, scalar_field}
 use Rattle.linear_algebra.proofs.Transfer.{tuples_of, span_to_tuples}
 use Rattle.linear_algebra.proofs.VectorLaws.{tuple-zero, zero-vector}
@@ -52,8 +52,7 @@ module _ (S : Scalars) (F : IsField S) (d : ℕ) {X : Type 0} (ss : List (Step X
   -- and so does their span, which is all that becomes zero
   pub span_removed : (v : List ℕ) → IsVector S d v → InSpan S d (taken ss) v → reduced S ss v ≡ zero_vector S d
   span_removed v h c =
-      sym (list-tuple S F d (reduced S ss v) (reduced-vector S F d ss v is_elimination h))
-      ∙ ap (list S d) (tuple-reduced S F d ss v is_elimination h
+      list-is S F d (reduced S ss v) (reduced-vector S F d ss v is_elimination h) (tuple-reduced S F d ss v is_elimination h
       ∙ reduced_kills (scalar_field S F) (space S F d) (coordinate S F d) (coordinate-linear S F d) (map (elimination_of S F d) ss) (tuples_of S F d (taken ss)) (tuple S F d v) each
       (span_to_tuples S F d (taken ss) v taken-vectors c))
       ∙ list-null S F d

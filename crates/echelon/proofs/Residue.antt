@@ -10,8 +10,8 @@ use Rattle.echelon.proofs.Reduction.{is_elimination, span_removed, taken-vectors
 use Rattle.echelon.proofs.Transfers.{IsElimination, coordinate, coordinate-linear, coordinate-zero, zero-coordinate, elimination_of, element-entry, entry-scalar, reduced_tuple, tuple-reduced, reduced-vector}
 use Rattle.echelon.specs.Leads.{LeadsAt}
 use Rattle.echelon.specs.Residues.{IsLeading, IsResidue}
-use Rattle.echelon.specs.Steps.{reduced, taken, IsStep, IsEchelon}
-use Rattle.linear_algebra.proofs.Coordinates.{tuple, element, element-number, space, list, list-vector, tuple-list, list-tuple, list-plus}
+use Rattle.echelon.specs.Eliminations.{reduced, taken, IsStep, IsEchelon}
+use Rattle.linear_algebra.proofs.Coordinates.{tuple, element, element-number, space, list, list-vector, tuple-list, list-is, list-tuple, list-plus}
 use Rattle.linear_algebra.proofs.Elements.{Element, scalar_field, same_element, zero_element, one_element, add_elements}
 use Rattle.vector_spaces.proofs.Span.{InSpan as InSpan_of, span_scale}
 use Rattle.linear_algebra.specs.Scalars.{Scalars, IsScalar, IsField}
@@ -112,7 +112,7 @@ module _ (S : Scalars) (F : IsField S) where
             vector = reduced-vector S F d ss v V h;
             added = y;
             in_span = span_from_tuples S F d (taken ss) y (taken-vectors S F d ss e) y_in (subst (InSpan_of (space S F d) (tuples_of S F d (taken ss))) (sym (tuple-list S F d r.0)) r.1);
-            sum = sym (list-tuple S F d (reduced S ss v) (reduced-vector S F d ss v V h)) ∙ ap (list S d) (tuple-reduced S F d ss v V h ∙ r.2) ∙ list-plus S F d (tuple S F d v) r.0 ∙ ap (λ w. vector_sum S w y) (list-tuple S F d v h);
+            sum = list-is S F d (reduced S ss v) (reduced-vector S F d ss v V h) (tuple-reduced S F d ss v V h ∙ r.2) ∙ list-plus S F d (tuple S F d v) r.0 ∙ ap (λ w. vector_sum S w y) (list-tuple S F d v h);
             reduced = λ p l. reduced_at_leading v p h l;
           }
 

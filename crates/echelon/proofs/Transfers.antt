@@ -1,7 +1,7 @@
 -- The steps of a basis as eliminations in the space of tuples.
 use Rattle.std.proofs.Common.{◌≡◌, ℕ, zero, suc, ◌<◌, List, [], ◌∷◌, ◌++◌, map, get_or, refl, sym, ap, ◌∙◌, subst, arith, inl, inr}
 use Rattle.echelon.proofs.Eliminations.{eliminated as eliminated_of, reduced as reduced_of}
-use Rattle.echelon.specs.Steps.{eliminated, reduced}
+use Rattle.echelon.specs.Eliminations.{eliminated, reduced}
 use Rattle.linear_algebra.proofs.Coordinates.{tuple, element, element-of, list-tuple, space, list}
 use Rattle.linear_algebra.proofs.Elements.{Element, scalar_field, same_element, zero_element}
 use Rattle.linear_algebra.proofs.VectorLaws.{tuple-sum, tuple-multiple, vector_sum-vector, multiple-vector}

@@ -3,7 +3,7 @@ use Rattle.std.specs.Prelude.{ℕ, List, [], ◌∷◌, ◌++◌, map}
 use Rattle.linear_algebra.specs.Scalars.{Scalars}
 use Rattle.linear_algebra.specs.Spans.{InSpan, Combines}
 use Rattle.echelon.specs.Leads.{LeadsAt}
-use Rattle.echelon.specs.Steps.{taken, IsEchelon, IsNextStep}
+use Rattle.echelon.specs.Eliminations.{taken, IsEchelon, IsNextStep}
 use Rattle.echelon.specs.declared.elimination.Found.{Found}
 use Rattle.echelon.specs.declared.elimination.Found.TheVariants.{Inside, Outside}
 use Rattle.echelon.specs.declared.elimination.Remainder.{Remainder}

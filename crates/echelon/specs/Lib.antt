@@ -1,5 +1,5 @@
 pub mod Leads
-pub mod Steps
+pub mod Eliminations
 pub mod Found
 pub mod Inserted
 pub mod Residues

@@ -25,7 +25,7 @@ impl<F: Field> Model for Echelon<F> {
 
     ghost Value = { Matrix };
 
-    ghost use Rattle.echelon.specs.Steps.{taken, IsEchelon};
+    ghost use Rattle.echelon.specs.Eliminations.{taken, IsEchelon};
 
     ghost view = { λ e. record { width = e.dimension; rows = taken e.steps.items } };
 

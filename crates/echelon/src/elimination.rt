@@ -3,7 +3,7 @@
 ghost use Rattle.std.specs.Prelude.{◌≡◌, ◌≢◌, ◌<◌, ◌+◌, ◌++◌, ◌∷◌, [], ℕ, IfOk, MatchOption, map, length, slice_index};
 ghost use Rattle.linear_algebra.specs.Vectors.{zero_vector, vector_sum, multiple};
 ghost use Rattle.linear_algebra.specs.Spans.{combination};
-ghost use Rattle.echelon.specs.Steps.{eliminated, reduced, taken, IsEchelon, IsNextStep, IsNegated};
+ghost use Rattle.echelon.specs.Eliminations.{eliminated, reduced, taken, IsEchelon, IsNextStep, IsNegated};
 ghost use Rattle.echelon.specs.Leads.{LeadsAt};
 ghost use Rattle.echelon.specs.Found.{Finds};
 

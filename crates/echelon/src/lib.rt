@@ -3,7 +3,7 @@
 //!
 //! [`Echelon`] is seen as the dimension of its space and the list of the vectors that it took. Each took
 //! vector is kept as a step: a row, which the coefficients combine from the vectors taken so far, and the
-//! pivot that it eliminates. What the steps keep is `IsEchelon` in `specs/Steps.antt`; that elimination is
+//! pivot that it eliminates. What the steps keep is `IsEchelon` in `specs/Eliminations.antt`; that elimination is
 //! linear and takes each vector of the span to zero is proved in `proofs/Eliminations.antt` over any space.
 //! [`basis_of`] takes all vectors of a list, one after the other.
 #![tactic(auto)]

@@ -6,7 +6,7 @@ use Rattle.std.specs.List.Sorted.{IsStrictlyIncreasing}
 use Rattle.vector_spaces.proofs.Members.{In-contains}
 use Rattle.linear_algebra.specs.Scalars.{Scalars, IsField}
 use Rattle.exchanges.specs.Exchanges.{IsLonger}
-use Rattle.matching_state.specs.Places.{rank_beside}
+use Rattle.matching_state.specs.LinePlaces.{rank_beside}
 use Rattle.matching_state.proofs.OneStep.{rank_of_member, free_line_added}
 use Rattle.parity_lines.specs.LineSets.{IsIndependentSet}
 use Rattle.parity_lines.specs.Problems.{ParityProblem, IsProblem}

@@ -12,7 +12,7 @@ use Rattle.exchanges.proofs.SpansOfLines.{set_with_vectors, spanned_of_within}
 use Rattle.exchanges.specs.Exchanges.{AreSpanned, CanExchange}
 use Rattle.exchanges.specs.Offers.{IsOffer, OffersNothing, TellsLineOut}
 use Rattle.exchanges.specs.declared.offer.Offer.{Offer}
-use Rattle.matching_state.specs.Places.{IsExposed, IsOuter, IsTip, rank_beside}
+use Rattle.matching_state.specs.LinePlaces.{IsExposed, IsOuter, IsTip, rank_beside}
 use Rattle.matching_state.specs.Supports.{IsSupport}
 use Rattle.matching_state.proofs.Ties.{one_line, in_line_vector, exposed_of}
 use Rattle.matching_state.proofs.Tips.{same_components}

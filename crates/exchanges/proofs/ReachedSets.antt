@@ -6,11 +6,11 @@ use Rattle.linear_algebra.specs.Scalars.{Scalars, IsField}
 use Rattle.linear_algebra.specs.Vectors.{AreVectors}
 use Rattle.exchanges.proofs.SwappedSets.{comes_in, independent_after, missed_after}
 use Rattle.exchanges.specs.Exchanges.{CanExchange, IsExchangeToward, IsReached, StillMisses, by_none, by_one_more}
-use Rattle.exchanges.specs.Steps.{TellsStep}
+use Rattle.exchanges.specs.StepsToward.{TellsStep}
 use Rattle.exchanges.specs.declared.step.Stepped.{Stepped}
 use Rattle.exchanges.specs.declared.step.Stepped.TheVariants.{Moved}
 use Rattle.matching_state.specs.Missing.{Misses}
-use Rattle.matching_state.specs.Steps.{IsSwap}
+use Rattle.matching_state.specs.DirectSteps.{IsSwap}
 use Rattle.matching_state.proofs.StepSets.{swap_of, increasing_distinct}
 use Rattle.parity_lines.specs.LineSets.{IsLineSet, IsIndependentSet}
 use Rattle.parity_lines.specs.Problems.{ParityProblem, IsProblem, vectors_at}

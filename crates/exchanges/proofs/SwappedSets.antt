@@ -17,8 +17,8 @@ use Rattle.exchanges.proofs.SpansOfLines.{spanned_of_within}
 use Rattle.exchanges.specs.Exchanges.{AreSpanned}
 use Rattle.matching_state.specs.Missing.{Misses}
 use Rattle.matching_state.specs.Overlaps.{InSupport}
-use Rattle.matching_state.specs.Places.{IsExposed, IsOuter}
-use Rattle.matching_state.specs.Steps.{IsSwap}
+use Rattle.matching_state.specs.LinePlaces.{IsExposed, IsOuter}
+use Rattle.matching_state.specs.DirectSteps.{IsSwap}
 use Rattle.matching_state.proofs.OneStep.{independent_by_tuples, exposed_is_new}
 use Rattle.matching_state.proofs.StepSets.{swap_of}
 use Rattle.matching_state.proofs.Ties.{pairs, one_line, exposed_of, coordinates_vector, component_in_support, misses_to, misses_from}

@@ -5,8 +5,8 @@ use Rattle.linear_algebra.specs.Scalars.{Scalars}
 use Rattle.linear_algebra.specs.Spans.{InSpan}
 use Rattle.matching_state.specs.Missing.{Misses}
 use Rattle.matching_state.specs.Overlaps.{InSupport}
-use Rattle.matching_state.specs.Places.{IsExposed, rank_beside}
-use Rattle.matching_state.specs.Steps.{IsSwap}
+use Rattle.matching_state.specs.LinePlaces.{IsExposed, rank_beside}
+use Rattle.matching_state.specs.DirectSteps.{IsSwap}
 use Rattle.parity_lines.specs.LineSets.{IsLineSet, IsIndependentSet}
 use Rattle.parity_lines.specs.Problems.{ParityProblem, vectors_at}
 

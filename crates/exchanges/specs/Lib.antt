@@ -1,4 +1,4 @@
 pub mod Exchanges
 pub mod Spans
 pub mod Offers
-pub mod Steps
+pub mod StepsToward

@@ -6,7 +6,7 @@ use Rattle.linear_algebra.specs.Spans.{InSpan}
 use Rattle.exchanges.specs.Exchanges.{CanExchange}
 use Rattle.exchanges.specs.declared.offer.Offer.{Offer}
 use Rattle.exchanges.specs.declared.offer.Offer.TheVariants.{Line, Exchange}
-use Rattle.matching_state.specs.Places.{rank_beside}
+use Rattle.matching_state.specs.LinePlaces.{rank_beside}
 use Rattle.parity_lines.specs.Problems.{ParityProblem}
 
 -- a line of T that is free over M, or an exchange for a line that vs don't span

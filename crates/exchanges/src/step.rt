@@ -2,9 +2,9 @@
 
 ghost use Rattle.std.specs.Prelude.{◌≡◌, ◌<◌, All, IfOk, OnErr, length};
 ghost use Rattle.exchanges.specs.Exchanges.{IsLonger, StillMisses};
-ghost use Rattle.exchanges.specs.Steps.{TellsStep};
+ghost use Rattle.exchanges.specs.StepsToward.{TellsStep};
 ghost use Rattle.matching_state.specs.Missing.{Misses};
-ghost use Rattle.matching_state.specs.Places.{rank_beside};
+ghost use Rattle.matching_state.specs.LinePlaces.{rank_beside};
 
 use crate::offer::{Offer, first_offer};
 use crate::swap;

@@ -4,8 +4,8 @@ ghost use Rattle.std.specs.Prelude.{◌≡◌, ◌<◌, IfOk, OnOk, OnErr, lengt
 ghost use Rattle.std.specs.List.{Contains};
 ghost use Rattle.std.specs.List.Sorted.{IsStrictlyIncreasing};
 ghost use Rattle.matching_state.specs.Overlaps.{InSupport};
-ghost use Rattle.matching_state.specs.Places.{IsExposed};
-ghost use Rattle.matching_state.specs.Steps.{IsSwap};
+ghost use Rattle.matching_state.specs.LinePlaces.{IsExposed};
+ghost use Rattle.matching_state.specs.DirectSteps.{IsSwap};
 ghost use Rattle.parity_lines.specs.LineSets.{IsIndependentSet};
 
 use field_core::Field;

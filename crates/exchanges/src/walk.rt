@@ -2,7 +2,7 @@
 
 ghost use Rattle.std.specs.Prelude.{◌≡◌, ◌<◌, All, IfOk, length};
 ghost use Rattle.exchanges.specs.Exchanges.{IsReached, StillMisses};
-ghost use Rattle.exchanges.specs.Steps.{TellsMoved};
+ghost use Rattle.exchanges.specs.StepsToward.{TellsMoved};
 ghost use Rattle.matching_state.specs.Missing.{Misses};
 
 use crate::{Stepped, step_toward};

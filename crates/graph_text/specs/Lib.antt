@@ -1,5 +1,5 @@
 pub mod Statements
 pub mod Spells
 pub mod Texts
-pub mod Steps
+pub mod LinesLeft
 pub mod Spelled

@@ -69,6 +69,10 @@ module _ (S : Scalars) (F : IsField S) where
   list-tuple (suc d) [] h = absurd (let e = h.length_is in omega arith)
   list-tuple (suc d) (a ∷ v) h = ap₂ (λ x y. x ∷ y) (element-number a (IsVector-head S d a v h)) (list-tuple d v (IsVector-tail S d a v h))
 
+  -- a list whose tuple this is
+  pub list-is : (d : ℕ) (v : List ℕ) → IsVector S d v → {t : Tuple (Element S) d} → tuple d v ≡ t → v ≡ list S d t
+  list-is d v h e = sym (list-tuple d v h) ∙ ap (list S d) e
+
   pub tuple-list : (d : ℕ) (v : Tuple (Element S) d) → tuple d (list S d v) ≡ v
   unfolding tuple
   tuple-list zero v = refl

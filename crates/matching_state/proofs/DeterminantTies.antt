@@ -9,7 +9,7 @@ use Rattle.linear_algebra.specs.Scalars.{Scalars, IsScalar, IsField}
 use Rattle.linear_algebra.specs.Vectors.{IsVector}
 use Rattle.linear_algebra.proofs.Coordinates.{element, element-number, element-product}
 use Rattle.linear_algebra.proofs.Elements.{Element, scalar_field}
-use Rattle.matching_state.specs.Steps.{HasDeterminantAt}
+use Rattle.matching_state.specs.DirectSteps.{HasDeterminantAt}
 use Rattle.matching_state.proofs.Ties.{pair_at}
 
 module _ {K : Type 0} (f : Field K) where

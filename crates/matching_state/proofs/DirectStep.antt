@@ -17,8 +17,8 @@ use Rattle.linear_algebra.proofs.Elements.{Element, scalar_field}
 use Rattle.linear_algebra.proofs.VectorLaws.{tuple-zero}
 use Rattle.matching_state.specs.Exposures.{IsExposure}
 use Rattle.matching_state.specs.Pairs.{IsAlike, CanReplace, HasPair}
-use Rattle.matching_state.specs.Places.{InSet, rank_beside}
-use Rattle.matching_state.specs.Steps.{IsAddition, IsTwoLineStep, IsDirectStep, HasDeterminantAt, TellsDirectStep}
+use Rattle.matching_state.specs.LinePlaces.{InSet, rank_beside}
+use Rattle.matching_state.specs.DirectSteps.{IsAddition, IsTwoLineStep, IsDirectStep, HasDeterminantAt, TellsDirectStep}
 use Rattle.matching_state.specs.Surveys.{AreExposed}
 use Rattle.matching_state.specs.declared.exposure.Exposure.{Exposure}
 use Rattle.matching_state.proofs.DeterminantTies.{entry}

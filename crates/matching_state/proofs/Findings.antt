@@ -10,13 +10,13 @@ use Rattle.vector_spaces.proofs.Tuples.{Tuple}
 use Rattle.vector_spaces.proofs.Within.{Within, within_trans, placing}
 use Rattle.linear_algebra.specs.Scalars.{Scalars, IsScalar, IsField}
 use Rattle.linear_algebra.specs.Vectors.{IsVector, AreVectors, zero_vector, vector_sum, multiple}
-use Rattle.linear_algebra.proofs.Coordinates.{tuple, space, list, list-tuple, list-null, element, element-sum, element-zero}
+use Rattle.linear_algebra.proofs.Coordinates.{tuple, space, list-is, list-null, element, element-sum, element-zero}
 use Rattle.linear_algebra.proofs.Elements.{Element, scalar_field}
 use Rattle.linear_algebra.proofs.SpanLaws.{span_multiple, span_sum}
 use Rattle.linear_algebra.proofs.VectorLaws.{tuple-sum, tuple-multiple, tuple-zero, multiple-vector, vector_sum-vector}
 use Rattle.echelon.specs.Residues.{IsResidue}
 use Rattle.matching_state.specs.Exposures.{AreOfLine}
-use Rattle.matching_state.specs.Places.{InLine, InSet, IsExposed, IsOuter, IsTip, own_rank, rank_beside}
+use Rattle.matching_state.specs.LinePlaces.{InLine, InSet, IsExposed, IsOuter, IsTip, own_rank, rank_beside}
 use Rattle.matching_state.proofs.Residues.{residue_tuple, outside_of_residue, missed_alone, missed_together}
 use Rattle.matching_state.proofs.Ties.{pairs, span_to, span_from, one_line, exposed_of, inside_rank, free_rank, single_ranks, exposed_ranks}
 use Rattle.parity_lines.proofs.Border.{vectors_at-vectors, tuples_at, independent_lines}
@@ -184,7 +184,7 @@ module _ (S : Scalars) (F : IsField S) (p : ParityProblem) (P : IsProblem S p) (
       beside_one = go (sp.same_vector (as_tuple tip) sp.null)
         where
           go : Dec (as_tuple tip ≡ sp.null) → rank_beside S p M e ≡ 1
-          go (yes z) = (single_found (sym (list-tuple S F p.dimension tip tip_vector) ∙ ap (list S p.dimension) z ∙ list-null S F p.dimension)).0
+          go (yes z) = (single_found (list-is S F p.dimension tip tip_vector z ∙ list-null S F p.dimension)).0
           go (no n') = (exposed_found (λ z. n' (ap as_tuple z ∙ tuple-zero S F p.dimension))).beside
 
       pub rest_found : IsRest S p M e tip

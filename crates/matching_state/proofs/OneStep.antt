@@ -12,8 +12,8 @@ use Rattle.linear_algebra.specs.Vectors.{IsVector}
 use Rattle.linear_algebra.proofs.Coordinates.{tuple, space}
 use Rattle.linear_algebra.proofs.Elements.{Element, scalar_field}
 use Rattle.linear_algebra.proofs.Transfer.{independent_from_tuples}
-use Rattle.matching_state.specs.Places.{IsExposed, IsTip, IsOuter, rank_beside}
-use Rattle.matching_state.specs.Steps.{IsAddition, IsTwoLineStep, HasDeterminantAt}
+use Rattle.matching_state.specs.LinePlaces.{IsExposed, IsTip, IsOuter, rank_beside}
+use Rattle.matching_state.specs.DirectSteps.{IsAddition, IsTwoLineStep, HasDeterminantAt}
 use Rattle.matching_state.proofs.DeterminantTies.{determinant_by_elements, determinant_by_numbers}
 use Rattle.matching_state.proofs.StepSets.{addition_of, step_of}
 use Rattle.matching_state.proofs.Ties.{at_pairs, exposed_of, coordinates_vector, free_rank, rank_free, inside_rank, exposed_ranks}

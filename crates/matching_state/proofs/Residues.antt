@@ -10,13 +10,13 @@ use Rattle.vector_spaces.proofs.Within.{head_in, left_in, right_in}
 use Rattle.linear_algebra.specs.Scalars.{Scalars, IsScalar, IsField}
 use Rattle.linear_algebra.specs.Vectors.{IsVector, AreVectors, zero_vector, vector_sum, multiple}
 use Rattle.linear_algebra.proofs.Combinations.{span_vector}
-use Rattle.linear_algebra.proofs.Coordinates.{tuple, space, list, list-vector, list-tuple, tuple-list, list-scale, element, list-plus}
+use Rattle.linear_algebra.proofs.Coordinates.{tuple, space, list, list-vector, list-is, list-tuple, tuple-list, list-scale, element, list-plus}
 use Rattle.linear_algebra.proofs.Elements.{Element, scalar_field, product-zero}
 use Rattle.linear_algebra.proofs.SpanLaws.{span_multiple}
 use Rattle.linear_algebra.proofs.VectorLaws.{tuple-sum, tuple-multiple, multiple-vector, list-multiple}
 use Rattle.echelon.specs.Residues.{IsResidue, IsCongruent}
 use Rattle.echelon.proofs.Cosets.{congruent_residues, same_residue, spanned_residue}
-use Rattle.matching_state.specs.Places.{InSet}
+use Rattle.matching_state.specs.LinePlaces.{InSet}
 use Rattle.matching_state.proofs.Ties.{span_to, span_from}
 use Rattle.parity_lines.proofs.Border.{vectors_at-vectors, tuples_at, independent_lines}
 use Rattle.parity_lines.specs.LineSets.{IsIndependentSet}
@@ -80,7 +80,7 @@ module _ (S : Scalars) (F : IsField S) (p : ParityProblem) (P : IsProblem S p) (
           let congruent : IsCongruent S p.dimension (vectors_at p M) v (multiple S k.0.0 u) = record {
             added = list S p.dimension t.0;
             in_span = span_from S F p P M (list S p.dimension t.0) i.line_set.within (list-vector S p.dimension t.0) (subst (λ x. InSpan_of sp (vectors line M) x) (sym (tuple-list S F p.dimension t.0)) t.2);
-            sum = sym (list-tuple S F p.dimension v hv) ∙ ap (list S p.dimension) is ∙ list-plus S F p.dimension _ t.0
+            sum = list-is S F p.dimension v hv is ∙ list-plus S F p.dimension _ t.0
                 ∙ ap (λ x. vector_sum S x (list S p.dimension t.0)) (list-scale S F p.dimension k.0 (as_tuple u) ∙ ap (multiple S k.0.0) (list-tuple S F p.dimension u hu));
           } in
           no_multiple k.0.0 k.0.1 (congruent_residues S F p.dimension (vectors_at p M) set_vectors v (multiple S k.0.0 u) b (multiple S k.0.0 a) hv (multiple-vector S F p.dimension k.0.0 u k.0.1 hu) congruent q

@@ -8,7 +8,7 @@ use Rattle.std.proofs.Math.Decide.{ℕ_discrete}
 use Rattle.vector_spaces.proofs.Distinct.{IsDistinct}
 use Rattle.vector_spaces.proofs.Members.{In, contains-In, In-contains}
 use Rattle.vector_spaces.proofs.Middles.{in_split, in_others, length-middle}
-use Rattle.matching_state.specs.Steps.{IsAddition, IsSwap, IsTwoLineStep}
+use Rattle.matching_state.specs.DirectSteps.{IsAddition, IsSwap, IsTwoLineStep}
 use Rattle.parity_theory.proofs.Exchanges.{IsSwap as IsSwap_of}
 use Rattle.parity_theory.proofs.DirectSteps.{IsStep}
 

@@ -6,7 +6,7 @@ use Rattle.std.proofs.lemmas.List.Quantifiers.{all_pairs_push}
 use Rattle.vector_spaces.proofs.Members.{contains-In, In-contains, In-append_left, In-append_right}
 use Rattle.linear_algebra.specs.Scalars.{Scalars}
 use Rattle.matching_state.specs.Exposures.{IsExposure}
-use Rattle.matching_state.specs.Places.{IsExposed, rank_beside}
+use Rattle.matching_state.specs.LinePlaces.{IsExposed, rank_beside}
 use Rattle.matching_state.specs.Surveys.{AreExposed}
 use Rattle.matching_state.specs.declared.exposure.Exposure.{Exposure}
 use Rattle.parity_lines.specs.Problems.{ParityProblem}

@@ -12,12 +12,12 @@ use Rattle.linear_algebra.specs.Scalars.{Scalars, IsScalar, IsField}
 use Rattle.linear_algebra.specs.Spans.{combination, Combines, InSpan, IsIndependent}
 use Rattle.linear_algebra.specs.Vectors.{IsVector, AreVectors, zero_vector, vector_sum, multiple}
 use Rattle.linear_algebra.proofs.Combinations.{combination-vector, span_vector}
-use Rattle.linear_algebra.proofs.Coordinates.{tuple, element, element-number, element-zero, space, list, list-tuple, list-null}
+use Rattle.linear_algebra.proofs.Coordinates.{tuple, element, element-number, element-zero, space, list, list-is, list-null}
 use Rattle.linear_algebra.proofs.Elements.{Element, scalar_field}
 use Rattle.linear_algebra.proofs.RankLaws.{rank_le_length}
 use Rattle.linear_algebra.proofs.Transfer.{tuples_of, span_to_tuples, span_from_tuples, independent_to_tuples, independent_from_tuples}
 use Rattle.linear_algebra.proofs.VectorLaws.{tuple-sum, tuple-multiple, tuple-zero, vector_sum-vector, multiple-vector}
-use Rattle.matching_state.specs.Places.{InLine, IsExposed, IsOuter, IsTip, own_rank, rank_beside}
+use Rattle.matching_state.specs.LinePlaces.{InLine, IsExposed, IsOuter, IsTip, own_rank, rank_beside}
 use Rattle.matching_state.specs.Supports.{HasComponent}
 use Rattle.parity_lines.proofs.Border.{vectors_at-vectors, tuples_at, tuples-vectors_at, independent_lines, lines_over}
 use Rattle.parity_lines.proofs.IndependentLines.{length-vectors_at}
@@ -163,7 +163,7 @@ module _ (S : Scalars) (F : IsField S) (p : ParityProblem) (P : IsProblem S p) w
 
   -- a list that is not zero as a tuple
   pub tuple_not_null : (x : List ℕ) → IsVector S p.dimension x → x ≢ zero_vector S p.dimension → tuple S F p.dimension x ≢ (space S F p.dimension).null
-  tuple_not_null x h n e = n (sym (list-tuple S F p.dimension x h) ∙ ap (list S p.dimension) e ∙ list-null S F p.dimension)
+  tuple_not_null x h n e = n (list-is S F p.dimension x h e ∙ list-null S F p.dimension)
 
   -- a line alone
   pub one_line : (e : ℕ) → e < length p.lines → All (λ m. m < length p.lines) (e ∷ [])

@@ -12,10 +12,10 @@ use Rattle.linear_algebra.specs.Scalars.{Scalars, IsScalar, IsField}
 use Rattle.linear_algebra.specs.Ranks.{rank_over}
 use Rattle.linear_algebra.specs.Spans.{IsIndependent}
 use Rattle.linear_algebra.specs.Vectors.{IsVector, AreVectors, multiple}
-use Rattle.linear_algebra.proofs.Coordinates.{tuple, space, list, list-vector, list-tuple, tuple-list, list-scale, element, element-of, element-zero}
+use Rattle.linear_algebra.proofs.Coordinates.{tuple, space, list, list-vector, list-is, list-tuple, tuple-list, list-scale, element, element-of, element-zero}
 use Rattle.linear_algebra.proofs.Elements.{Element, scalar_field}
 use Rattle.matching_state.specs.Overlaps.{IsOverlap, HaveCommonComponent}
-use Rattle.matching_state.specs.Places.{IsExposed, IsOuter, IsTip}
+use Rattle.matching_state.specs.LinePlaces.{IsExposed, IsOuter, IsTip}
 use Rattle.matching_state.specs.Supports.{HasComponent}
 use Rattle.matching_state.proofs.Ties.{pairs, span_to, span_from, one_line, in_line_vector, coordinates_vector, exposed_of, exposed_ranks, ranks_exposed, component_in_support, component_of_support, misses_to, misses_from}
 use Rattle.parity_lines.proofs.Border.{vectors_at-vectors, tuples_at, tuples-vectors_at, lines_over}
@@ -60,7 +60,7 @@ module _ (S : Scalars) (F : IsField S) (p : ParityProblem) (P : IsProblem S p) (
           a.0,
           a.1,
           (λ z. r.1 (sym (element-of S F a) ∙ ap (element S F) z ∙ element-zero S F)),
-          sym (list-tuple S F p.dimension tip' (in_line_vector S F p P e tip' h t'.in_line)) ∙ ap (list S p.dimension) r.2 ∙ list-scale S F p.dimension a (tuple S F p.dimension tip)
+          list-is S F p.dimension tip' (in_line_vector S F p P e tip' h t'.in_line) r.2 ∙ list-scale S F p.dimension a (tuple S F p.dimension tip)
               ∙ ap (multiple S a.0) (list-tuple S F p.dimension tip (in_line_vector S F p P e tip h t.in_line)),
         )
 

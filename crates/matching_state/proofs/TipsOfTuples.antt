@@ -9,7 +9,7 @@ use Rattle.linear_algebra.proofs.Coordinates.{tuple, space, list, list-vector, t
 use Rattle.linear_algebra.proofs.Elements.{Element, scalar_field}
 use Rattle.linear_algebra.proofs.VectorLaws.{tuple-zero}
 use Rattle.matching_state.specs.Overlaps.{InSupport}
-use Rattle.matching_state.specs.Places.{IsExposed, IsTip}
+use Rattle.matching_state.specs.LinePlaces.{IsExposed, IsTip}
 use Rattle.matching_state.proofs.Ties.{span_from, one_line, coordinates_vector, component_of_support, exposed_of, exposed_ranks}
 use Rattle.matching_state.proofs.Tips.{outer_of}
 use Rattle.parity_lines.proofs.Border.{tuples_at}

@@ -2,7 +2,7 @@
 use Rattle.std.specs.Prelude.{◌≡◌, ◌⊎◌, ℕ, ◌<◌, List, length}
 use Rattle.echelon.specs.Residues.{IsResidue}
 use Rattle.linear_algebra.specs.Scalars.{Scalars}
-use Rattle.matching_state.specs.Places.{IsExposed, IsOuter, IsTip, own_rank, rank_beside}
+use Rattle.matching_state.specs.LinePlaces.{IsExposed, IsOuter, IsTip, own_rank, rank_beside}
 use Rattle.matching_state.specs.declared.exposure.Exposure.{Exposure}
 use Rattle.matching_state.specs.declared.exposure.Found.{Found}
 use Rattle.matching_state.specs.declared.exposure.Found.TheVariants.{Inside, Single, Exposed, Free}

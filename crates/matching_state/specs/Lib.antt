@@ -1,10 +1,10 @@
 pub mod Chosen
 pub mod Bases
 pub mod Supports
-pub mod Places
+pub mod LinePlaces
 pub mod Missing
 pub mod Exposures
-pub mod Steps
+pub mod DirectSteps
 pub mod Pairs
 pub mod Surveys
 pub mod States

@@ -2,7 +2,7 @@
 use Rattle.std.specs.Prelude.{◌≡◌, ℕ, List, [], ◌∷◌}
 use Rattle.linear_algebra.specs.Scalars.{Scalars}
 use Rattle.linear_algebra.specs.Ranks.{rank_over}
-use Rattle.matching_state.specs.Places.{IsExposed, IsTip}
+use Rattle.matching_state.specs.LinePlaces.{IsExposed, IsTip}
 use Rattle.matching_state.specs.Supports.{HasComponent}
 use Rattle.parity_lines.specs.Problems.{ParityProblem, vectors_at}
 

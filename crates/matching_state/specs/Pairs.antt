@@ -3,7 +3,7 @@ use Rattle.std.specs.Prelude.{◌≡◌, ◌≢◌, ℕ, ◌+◌, ◌*◌, ◌<�
 use Rattle.std.specs.List.{Contains}
 use Rattle.linear_algebra.specs.Scalars.{Scalars, IsScalar}
 use Rattle.linear_algebra.specs.Vectors.{zero_vector, multiple}
-use Rattle.matching_state.specs.Steps.{HasDeterminantAt}
+use Rattle.matching_state.specs.DirectSteps.{HasDeterminantAt}
 use Rattle.matching_state.specs.declared.exposure.Exposure.{Exposure}
 
 -- x and y are of the same lengths, and x's residue isn't zero

@@ -3,7 +3,7 @@ use Rattle.std.specs.Prelude.{◌≡◌, ◌≢◌, ℕ, ◌<◌, List, length, 
 use Rattle.std.specs.List.{Contains, AllPairs}
 use Rattle.linear_algebra.specs.Scalars.{Scalars}
 use Rattle.matching_state.specs.Exposures.{IsExposure}
-use Rattle.matching_state.specs.Places.{IsExposed, rank_beside}
+use Rattle.matching_state.specs.LinePlaces.{IsExposed, rank_beside}
 use Rattle.matching_state.specs.declared.exposure.Exposure.{Exposure}
 use Rattle.matching_state.specs.declared.step.Survey.{Survey}
 use Rattle.matching_state.specs.declared.step.Survey.TheVariants.{Free, Exposed}

@@ -4,7 +4,7 @@ ghost use Rattle.std.specs.Prelude.{◌≡◌, ◌≢◌, ◌<◌, ◌*◌, IfOk
 ghost use Rattle.echelon.specs.Residues.{IsResidue};
 ghost use Rattle.linear_algebra.specs.Vectors.{zero_vector};
 ghost use Rattle.matching_state.specs.Exposures.{IsFound, AreOfLine};
-ghost use Rattle.matching_state.specs.Places.{InLine, InSet, IsOuter, IsPlace, own_rank, rank_beside};
+ghost use Rattle.matching_state.specs.LinePlaces.{InLine, InSet, IsOuter, IsPlace, own_rank, rank_beside};
 ghost use Rattle.matching_state.specs.Supports.{IsSupport};
 ghost use Rattle.parity_lines.specs.LineSets.{IsIndependentSet};
 ghost use Rattle.parity_lines.specs.Problems.{IsProblem, vectors_at};

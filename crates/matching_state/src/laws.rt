@@ -8,8 +8,8 @@ ghost use Rattle.parity_lines.specs.Problems.{ParityProblem, IsProblem};
 ghost use Rattle.parity_lines.specs.LineSets.{IsLineSet, IsIndependentSet};
 ghost use Rattle.matching_state.specs.Supports.{HasComponent};
 ghost use Rattle.matching_state.specs.Missing.{Misses};
-ghost use Rattle.matching_state.specs.Places.{IsTip, IsOuter, IsExposed};
-ghost use Rattle.matching_state.specs.Steps.{IsSwap, IsTwoLineStep, HasDeterminantAt};
+ghost use Rattle.matching_state.specs.LinePlaces.{IsTip, IsOuter, IsExposed};
+ghost use Rattle.matching_state.specs.DirectSteps.{IsSwap, IsTwoLineStep, HasDeterminantAt};
 ghost use Rattle.matching_state.specs.Overlaps.{IsOverlap, HaveCommonComponent};
 
 /// A line with a tip and an outer is exposed. Its tips are multiples of each other, so they have components at the

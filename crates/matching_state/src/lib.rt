@@ -2,8 +2,8 @@
 //!
 //! [`Matched`] is seen as a problem with an independent set M of its lines (`Chosen`). [`Matched::coordinates`]
 //! tells how M's vectors combine to a vector, [`Matched::position`] the place of a line by the rank that it adds to
-//! M (`specs/Places.antt`), and [`Matched::direct_step`] an independent set that is M with a line more, or with two
-//! lines in the place of one, exactly where there is one (`specs/Steps.antt`). `specs/Overlaps.antt` says what an
+//! M (`specs/LinePlaces.antt`), and [`Matched::direct_step`] an independent set that is M with a line more, or with two
+//! lines in the place of one, exactly where there is one (`specs/DirectSteps.antt`). `specs/Overlaps.antt` says what an
 //! overlap is. For the notions: Lovász and Plummer, Matching Theory, chapter 11.
 //!
 //! The mathematics is that of `parity_theory`, over any space; `proofs/Ties.antt` takes lists of numbers there.

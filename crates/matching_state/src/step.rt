@@ -6,7 +6,7 @@ ghost use Rattle.std.specs.List.Sorted.{IsStrictlyIncreasing};
 ghost use Rattle.matching_state.specs.Pairs.{IsAlike, CanReplace, HasPartner, HasPair};
 ghost use Rattle.matching_state.specs.Surveys.{TellsSurvey};
 ghost use Rattle.parity_lines.specs.Problems.{IsProblem};
-ghost use Rattle.matching_state.specs.Steps.{HasDeterminantAt, IsTwoLineStep, TellsDirectStep};
+ghost use Rattle.matching_state.specs.DirectSteps.{HasDeterminantAt, IsTwoLineStep, TellsDirectStep};
 
 use crate::Matched;
 use crate::exposure::{Exposure, Found};

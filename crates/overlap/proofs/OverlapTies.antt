@@ -17,8 +17,8 @@ use Rattle.linear_algebra.specs.Vectors.{IsVector, AreVectors}
 use Rattle.linear_algebra.proofs.Coordinates.{tuple, space}
 use Rattle.linear_algebra.proofs.Elements.{Element, scalar_field}
 use Rattle.matching_state.specs.Overlaps.{IsOverlap, HaveCommonComponent}
-use Rattle.matching_state.specs.Places.{IsTip, IsOuter}
-use Rattle.matching_state.specs.Steps.{IsTwoLineStep, TellsDirectStep}
+use Rattle.matching_state.specs.LinePlaces.{IsTip, IsOuter}
+use Rattle.matching_state.specs.DirectSteps.{IsTwoLineStep, TellsDirectStep}
 use Rattle.matching_state.proofs.DeterminantTies.{determinant_by_elements}
 use Rattle.matching_state.proofs.OneStep.{independent_by_tuples, exposed_is_new}
 use Rattle.matching_state.proofs.Ties.{pairs, pair_at, at_pairs, pair_not_zero, exposed_of, coordinates_vector, in_line_vector, misses_to}

@@ -11,7 +11,7 @@ use Rattle.linear_algebra.proofs.Coordinates.{tuple, space, element}
 use Rattle.linear_algebra.proofs.Elements.{Element, scalar_field}
 use Rattle.linear_algebra.proofs.VectorLaws.{tuple-zero}
 use Rattle.matching_state.specs.Overlaps.{IsOverlap}
-use Rattle.matching_state.specs.Places.{IsTip}
+use Rattle.matching_state.specs.LinePlaces.{IsTip}
 use Rattle.matching_state.proofs.DeterminantTies.{entry}
 use Rattle.matching_state.proofs.OneStep.{independent_by_tuples}
 use Rattle.matching_state.proofs.Ties.{pairs, combining, span_from}

@@ -4,7 +4,7 @@ use Rattle.std.specs.List.{Contains}
 use Rattle.echelon.specs.Residues.{IsResidue}
 use Rattle.linear_algebra.specs.Scalars.{Scalars}
 use Rattle.linear_algebra.specs.Spans.{InSpan}
-use Rattle.matching_state.specs.Places.{IsExposed, IsOuter, IsTip}
+use Rattle.matching_state.specs.LinePlaces.{IsExposed, IsOuter, IsTip}
 use Rattle.matching_state.specs.Supports.{IsSupport}
 use Rattle.overlap.specs.declared.candidates.Candidate.{Candidate}
 use Rattle.parity_lines.specs.Problems.{ParityProblem, vectors_at}

@@ -5,7 +5,7 @@ use Rattle.linear_algebra.specs.Scalars.{Scalars}
 use Rattle.linear_algebra.specs.Spans.{InSpan, IsIndependent}
 use Rattle.linear_algebra.specs.Vectors.{IsVector, zero_vector}
 use Rattle.matching_state.specs.Overlaps.{IsOverlap}
-use Rattle.matching_state.specs.Steps.{TellsDirectStep}
+use Rattle.matching_state.specs.DirectSteps.{TellsDirectStep}
 use Rattle.parity_lines.specs.LineSets.{IsLineSet, IsIndependentSet}
 use Rattle.parity_lines.specs.Problems.{ParityProblem, vectors_at}
 

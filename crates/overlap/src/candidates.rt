@@ -1,7 +1,7 @@
 //! The exposed lines, with what tells which of them overlap.
 
 ghost use Rattle.std.specs.Prelude.{◌≡◌, ◌<◌, IfOk, MatchOption, length};
-ghost use Rattle.matching_state.specs.Places.{IsExposed};
+ghost use Rattle.matching_state.specs.LinePlaces.{IsExposed};
 ghost use Rattle.overlap.specs.Candidates.{IsCandidate, AreCandidates};
 
 use field_core::{Field, Row};

@@ -2,8 +2,8 @@
 
 ghost use Rattle.std.specs.Prelude.{◌≡◌, ◌<◌, List, ℕ, IfOk, None, length, map};
 ghost use Rattle.matching_state.specs.Overlaps.{IsOverlap};
-ghost use Rattle.matching_state.specs.Places.{IsExposed, IsTip};
-ghost use Rattle.matching_state.specs.Steps.{TellsDirectStep};
+ghost use Rattle.matching_state.specs.LinePlaces.{IsExposed, IsTip};
+ghost use Rattle.matching_state.specs.DirectSteps.{TellsDirectStep};
 ghost use Rattle.parity_lines.specs.LineSets.{IsIndependentSet};
 ghost use Rattle.overlap.specs.PointedOverlaps.{IsOverlapAt, IsPoint};
 

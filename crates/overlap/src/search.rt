@@ -2,7 +2,7 @@
 
 ghost use Rattle.std.specs.Prelude.{◌<◌, ℕ, IfOk, MatchOption, None, length};
 ghost use Rattle.matching_state.specs.Overlaps.{IsOverlap};
-ghost use Rattle.matching_state.specs.Steps.{TellsDirectStep};
+ghost use Rattle.matching_state.specs.DirectSteps.{TellsDirectStep};
 ghost use Rattle.overlap.specs.PointedOverlaps.{IsOverlapOf};
 
 use crate::candidates::candidates;

@@ -22,9 +22,13 @@ pub record IsCertificate (S : Scalars) (p : ParityProblem) (kernel : Matrix) (pa
   pub nonempty : All (λ part. part ≢ []) parts
   pub once : (m : ℕ) → m < length p.lines → parts_with parts m ≡ 1
 
--- the length of the kernel, and half the rank that each part adds to it, rounded down
+-- half the rank that each part adds to a list of vectors, rounded down
+abbrev pub halves_over : Scalars → ParityProblem → List (List ℕ) → List (List ℕ) → ℕ
+halves_over S p rows parts = sum_by (λ part. rank_over S p.dimension rows (vectors_at p part) / 2) parts
+
+-- the length of the kernel, and the halves of the parts over it
 abbrev pub bound : Scalars → ParityProblem → Matrix → List (List ℕ) → ℕ
-bound S p kernel parts = length kernel.rows + sum_by (λ part. rank_over S p.dimension kernel.rows (vectors_at p part) / 2) parts
+bound S p kernel parts = length kernel.rows + halves_over S p kernel.rows parts
 
 -- an independent set, with a certificate whose bound is its length
 pub record IsGoodAnswer (S : Scalars) (p : ParityProblem) (set : List ℕ) (kernel : Matrix) (parts : List (List ℕ)) : Type 0 where

@@ -2,7 +2,7 @@
 use Rattle.std.specs.Prelude.{ℕ, List, [], ◌∷◌, map, codes, Option, None, Some}
 use Rattle.std.specs.Fmt.{decimal}
 use Rattle.linear_algebra.specs.Scalars.{Scalars}
-use Rattle.matching_state.specs.Steps.{TellsDirectStep}
+use Rattle.matching_state.specs.DirectSteps.{TellsDirectStep}
 use Rattle.parity_lines.specs.Independence.{IsRelation}
 use Rattle.parity_lines.specs.LineSets.{IsIndependentSet}
 use Rattle.parity_lines.specs.Problems.{ParityProblem, vectors_at}

@@ -1,7 +1,7 @@
 -- The projection of a vector modulo p: there is one alone, and its tuple is the projection of the vector's.
 use Rattle.std.proofs.Common.{◌≡◌, ◌≢◌, ℕ, suc, ◌<◌, ◌≤◌, List, get_or, refl, sym, ap, ap₂, ◌∙◌, subst, arith}
 use Rattle.std.specs.List.{remove}
-use Rattle.linear_algebra.proofs.Coordinates.{list, tuple, list-tuple, element, element-number, element-sum, element-product, element-zero, space}
+use Rattle.linear_algebra.proofs.Coordinates.{tuple, list-is, list-tuple, element, element-number, element-sum, element-product, element-zero, space}
 use Rattle.linear_algebra.proofs.Elements.{Element, scalar_field}
 use Rattle.linear_algebra.proofs.VectorLaws.{tuple-sum, tuple-multiple, vector_sum-vector, multiple-vector}
 use Rattle.linear_algebra.specs.Scalars.{Scalars, IsScalar, IsField}
@@ -57,7 +57,7 @@ module _ (S : Scalars) (F : IsField S) (d : ℕ) (p : List ℕ) (i : ℕ) (h : I
       (remove-vector S d i (vector_sum S v (multiple S r.factor p)) (vector_sum-vector S F (suc d) v (multiple S r.factor p) l (multiple-vector S F (suc d) r.factor p r.is_scalar h)) pivot_range)
 
   pub projection_unique : (v w w' : List ℕ) → IsVector S (suc d) v → IsProjection S p i v w → IsProjection S p i v w' → w ≡ w'
-  projection_unique v w w' l r t = sym (list-tuple S F d w (projection-vector v w l r)) ∙ ap (list S d) (tuple-projection v w l r ∙ sym (tuple-projection v w' l t)) ∙ list-tuple S F d w' (projection-vector v w' l t)
+  projection_unique v w w' l r t = list-is S F d w (projection-vector v w l r) (tuple-projection v w l r ∙ sym (tuple-projection v w' l t)) ∙ list-tuple S F d w' (projection-vector v w' l t)
 
   -- and each vector has one
   pub projection_exists : (v : List ℕ) → IsVector S (suc d) v → (w : List ℕ) × IsProjection S p i v w
@@ -84,4 +84,4 @@ module _ (S : Scalars) (F : IsField S) (d : ℕ) (p : List ℕ) (i : ℕ) (h : I
       let r = projection_exists (lifted S i w) (lifted-vector w l) in
       let same : tuple S F d r.0 ≡ tuple S F d w = tuple-projection (lifted S i w) r.0 (lifted-vector w l) r.1
       ∙ ap quotient.project (tuple-insert S F d i w l pivot_range ∙ sym (tuple_quotient-lift (scalar_field S F) d i pivot_range (tuple S F (suc d) p) pivot_element (tuple S F d w))) ∙ quotient.project-lift (tuple S F d w) in
-      subst (IsProjection S p i (lifted S i w)) (sym (list-tuple S F d r.0 (projection-vector (lifted S i w) r.0 (lifted-vector w l) r.1)) ∙ ap (list S d) same ∙ list-tuple S F d w l) r.1
+      subst (IsProjection S p i (lifted S i w)) (list-is S F d r.0 (projection-vector (lifted S i w) r.0 (lifted-vector w l) r.1) same ∙ list-tuple S F d w l) r.1

@@ -6,7 +6,7 @@ use Rattle.vector_spaces.proofs.Space.{Field, Space, linear}
 use Rattle.linear_algebra.specs.Scalars.{Scalars, IsScalar, IsField}
 use Rattle.linear_algebra.specs.Vectors.{IsVector, AreVectors, zero_vector, vector_sum, multiple}
 use Rattle.linear_algebra.proofs.Combinations.{span_vector}
-use Rattle.linear_algebra.proofs.Coordinates.{tuple, list, list-tuple, space}
+use Rattle.linear_algebra.proofs.Coordinates.{tuple, list-is, space}
 use Rattle.linear_algebra.proofs.Elements.{scalar_field, product-zero}
 use Rattle.linear_algebra.proofs.SpanLaws.{span_multiple}
 use Rattle.linear_algebra.proofs.VectorLaws.{tuple-sum, tuple-multiple, list-multiple, vector_sum-vector, multiple-vector}
@@ -46,7 +46,7 @@ module _ (S : Scalars) (F : IsField S) (d : ℕ) (vs : List (List ℕ)) (V : Are
       let min = (scalar_field S F).minus in
       let tuple_r : t (multiple S m r) ≡ s.◌·◌ min (s.◌⊕◌ (t e) (t res.added)) = tuple-multiple S F d m r m_in res.vector ∙ ap₂ s.◌·◌ (element-minus S F m m_in minus) (ap t res.sum ∙ tuple-sum S F d e res.added e_in a_in) in
       let is_multiple : u ≡ multiple S m res.added =
-      sym (list-tuple S F d u u_in) ∙ ap (list S d) (ap t is_u ∙ tuple-sum S F d e (multiple S m r) e_in mr_in ∙ ap (s.◌⊕◌ (t e)) tuple_r ∙ less_residue (scalar_field S F) s (t e) (t res.added)
+      list-is S F d u u_in (ap t is_u ∙ tuple-sum S F d e (multiple S m r) e_in mr_in ∙ ap (s.◌⊕◌ (t e)) tuple_r ∙ less_residue (scalar_field S F) s (t e) (t res.added)
       ∙ ap (λ c. s.◌·◌ c (t res.added)) (sym (element-minus S F m m_in minus))) ∙ list-multiple S F d m res.added m_in a_in in
       let entry : (q : ℕ) → IsLeading S d vs q → get_or u q 0 ≡ get_or (set (zero_vector S d) p S.one) q 0 = λ q k.
       let q_in : q < d = subst (λ n. q < n) k.vector.length_is k.leads.within in

@@ -14,7 +14,7 @@ use Rattle.linear_algebra.specs.Scalars.{Scalars, IsScalar, IsField}
 use Rattle.linear_algebra.specs.Spans.{combination, Combines, InSpan, IsIndependent}
 use Rattle.linear_algebra.specs.Vectors.{IsVector, AreVectors, vector_sum}
 use Rattle.linear_algebra.proofs.Combinations.{combination-append, combination-vector, span_vector, spanned_vectors}
-use Rattle.linear_algebra.proofs.Coordinates.{tuple, list, list-tuple, space}
+use Rattle.linear_algebra.proofs.Coordinates.{tuple, list, list-is, list-tuple, space}
 use Rattle.linear_algebra.proofs.Elements.{scalar_field}
 use Rattle.linear_algebra.proofs.IndependenceLaws.{independent_push}
 use Rattle.linear_algebra.proofs.SpanLaws.{span_member, span_sum, span_of_members, span_through, span_append_right, within_tuples}
@@ -40,7 +40,7 @@ module _ (S : Scalars) (F : IsField S) (d : ℕ) where
       let f = scalar_field S F in
       let s = space S F d in
       let t = tuple S F d in
-      sym (list-tuple S F d u u_in) ∙ ap (list S d) (sym (move f s (t (vector_sum S u n)) (t n) (t u) (tuple-sum S F d u n u_in n_in)) ∙ move f s (t (vector_sum S u n)) (t n) (t v) (ap t e ∙ tuple-sum S F d v n v_in n_in)) ∙ list-tuple S F d v v_in
+      list-is S F d u u_in (sym (move f s (t (vector_sum S u n)) (t n) (t u) (tuple-sum S F d u n u_in n_in)) ∙ move f s (t (vector_sum S u n)) (t n) (t v) (ap t e ∙ tuple-sum S F d v n v_in n_in)) ∙ list-tuple S F d v v_in
 
   -- vectors that are spanned by a list are spanned by a longer one
   all_more : (vs ws xs : List (List ℕ)) → AreVectors S d ws → AreVectors S d xs → ((v : List ℕ) → In v vs → In v ws) → All (InSpan S d vs) xs → All (InSpan S d ws) xs

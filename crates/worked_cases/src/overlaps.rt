@@ -2,7 +2,7 @@
 
 ghost use Rattle.std.specs.Prelude.{◌≡◌, ◌∷◌, [], IfOk, None};
 ghost use Rattle.matching_state.specs.Missing.{Misses};
-ghost use Rattle.matching_state.specs.Steps.{TellsDirectStep};
+ghost use Rattle.matching_state.specs.DirectSteps.{TellsDirectStep};
 
 use crate::common_vectors::{FORK, THIRD_AND_FIFTH};
 use crate::places::{SECOND_AND_FOURTH, ready};

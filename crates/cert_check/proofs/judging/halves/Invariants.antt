@@ -1,5 +1,5 @@
 use Rattle.std.proofs.Common.{◌≡◌, take}
-use Rattle.cert_check.specs.Verdicts.{halves_over}
+use Rattle.parity_lines.specs.Certificates.{halves_over}
 use Rattle.cert_check.proofs.judging.halves.Given as goal
 
 abbrev pub invariant-loop-i : goal.invariant-loop-i

@@ -2,13 +2,13 @@ use Rattle.std.proofs.Common.{◌≡◌, ◌<◌, ℕ, List, None, Some, MatchOp
 use Rattle.linear_algebra.specs.Scalars.{IsField}
 use Rattle.linear_algebra.specs.Vectors.{AreVectors}
 use Rattle.exchanges.proofs.ReachedSets.{exchange_told}
-use Rattle.exchanges.specs.Steps.{TellsStep}
+use Rattle.exchanges.specs.StepsToward.{TellsStep}
 use Rattle.classes.specs.Ends.{TellsEnd}
 use Rattle.classes.specs.Supports.{HaveCommonSupport}
 use Rattle.classes.proofs.CircuitTies.{circuit_exposed, circuit_goes_on, circuit_misses, comes_in, never_settles, overlap_before}
 use Rattle.matching_state.specs.Chosen.{Chosen}
 use Rattle.matching_state.specs.Overlaps.{IsOverlap}
-use Rattle.matching_state.specs.Places.{IsExposed}
+use Rattle.matching_state.specs.LinePlaces.{IsExposed}
 use Rattle.parity_lines.specs.Problems.{ParityProblem, IsProblem}
 use Rattle.classes.proofs.circuits.circle.Goals as goal
 

@@ -1,6 +1,6 @@
 use Rattle.std.proofs.Common.{ℕ, List, [], ◌∷◌, ap₂, ◌∙◌, subst}
 use Rattle.field_core.specs.Matrix.{Matrix}
-use Rattle.matching_state.specs.Places.{IsPlace}
+use Rattle.matching_state.specs.LinePlaces.{IsPlace}
 use Rattle.matching_state.proofs.Ties.{in_line_vector}
 use Rattle.parity_lines.specs.Problems.{IsProblem}
 use Rattle.classes.proofs.circuits.outer_alone.Goals as goal

@@ -1,5 +1,5 @@
 use Rattle.std.proofs.Common.{length, refl, sym, ◌∙◌, subst}
-use Rattle.matching_state.specs.Steps.{TellsDirectStep}
+use Rattle.matching_state.specs.DirectSteps.{TellsDirectStep}
 use Rattle.classes.specs.Ends.{IsOverlapping}
 use Rattle.classes.proofs.ended.ended_by.Goals as goal
 

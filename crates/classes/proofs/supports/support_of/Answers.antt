@@ -1,6 +1,6 @@
 use Rattle.std.proofs.Common.{subst}
 use Rattle.classes.proofs.SupportTies.{support_told}
-use Rattle.matching_state.specs.Places.{IsPlace}
+use Rattle.matching_state.specs.LinePlaces.{IsPlace}
 use Rattle.parity_lines.specs.Problems.{IsProblem}
 use Rattle.classes.proofs.supports.support_of.Goals as goal
 

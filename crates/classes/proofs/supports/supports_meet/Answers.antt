@@ -1,6 +1,6 @@
 use Rattle.std.proofs.Common.{List, ℕ, Option, MatchOption, subst}
 use Rattle.classes.specs.Supports.{HasSupport}
-use Rattle.matching_state.specs.Places.{IsExposed}
+use Rattle.matching_state.specs.LinePlaces.{IsExposed}
 use Rattle.classes.proofs.supports.supports_meet.Goals as goal
 
 pub returns : goal.returns

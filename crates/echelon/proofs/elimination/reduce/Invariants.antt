@@ -1,5 +1,5 @@
 use Rattle.std.proofs.Common.{◌≡◌, map, take}
-use Rattle.echelon.specs.Steps.{reduced}
+use Rattle.echelon.specs.Eliminations.{reduced}
 use Rattle.echelon.proofs.elimination.reduce.Given as goal
 
 abbrev pub invariant-loop-step : goal.invariant-loop-step

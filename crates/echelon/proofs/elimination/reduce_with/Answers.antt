@@ -2,7 +2,7 @@ use Rattle.std.proofs.Common.{◌+◌, length, map, ap, sym, refl, ◌∙◌}
 use Rattle.linear_algebra.specs.Vectors.{vector_sum}
 use Rattle.linear_algebra.specs.Spans.{combination}
 use Rattle.field_core.proofs.Values.{vector_of_values}
-use Rattle.echelon.specs.Steps.{taken}
+use Rattle.echelon.specs.Eliminations.{taken}
 use Rattle.echelon.proofs.Loops.{reduced-none, reduced_more, pivot_within, added_more, added-none}
 use Rattle.echelon.proofs.elimination.reduce_with.Goals as goal
 

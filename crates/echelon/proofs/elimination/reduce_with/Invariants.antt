@@ -1,7 +1,7 @@
 use Rattle.std.proofs.Common.{◌≡◌, map, take, length}
 use Rattle.linear_algebra.specs.Vectors.{vector_sum}
 use Rattle.linear_algebra.specs.Spans.{combination}
-use Rattle.echelon.specs.Steps.{reduced, taken}
+use Rattle.echelon.specs.Eliminations.{reduced, taken}
 use Rattle.echelon.proofs.elimination.reduce_with.Given as goal
 
 abbrev pub invariant-loop-step : goal.invariant-loop-step

@@ -2,7 +2,7 @@ use Rattle.std.proofs.Common.{None, Some, inl, inr, sym, ◌∙◌, subst}
 use Rattle.linear_algebra.specs.Vectors.{AreVectors}
 use Rattle.exchanges.proofs.OffersOfLines.{line_out_told, spanned_offers_nothing, closed_offers_nothing, exchange_found}
 use Rattle.exchanges.specs.Offers.{OffersNothing}
-use Rattle.matching_state.specs.Places.{IsPlace}
+use Rattle.matching_state.specs.LinePlaces.{IsPlace}
 use Rattle.matching_state.proofs.Ties.{in_line_vector}
 use Rattle.parity_lines.specs.Problems.{IsProblem}
 use Rattle.exchanges.proofs.offer.offer_of.Goals as goal

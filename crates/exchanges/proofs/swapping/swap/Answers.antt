@@ -1,7 +1,7 @@
 use Rattle.std.proofs.Common.{◌<◌, length, All, subst, sym}
 use Rattle.std.specs.List.{Contains}
 use Rattle.matching_state.specs.States.{TellsStart}
-use Rattle.matching_state.specs.Steps.{IsSwap}
+use Rattle.matching_state.specs.DirectSteps.{IsSwap}
 use Rattle.parity_lines.specs.LineSets.{IsIndependentSet}
 use Rattle.parity_lines.specs.Problems.{ParityProblem, IsProblem, vectors_at}
 use Rattle.parity_lines.proofs.NoRelation.{no_relation}

@@ -1,7 +1,7 @@
 use Rattle.std.proofs.Common.{[], ◌∷◌, sym, subst}
 use Rattle.std.proofs.lemmas.List.Elements.{All-nil, All-cons}
 use Rattle.linear_algebra.specs.Vectors.{IsVector, AreVectors}
-use Rattle.matching_state.specs.Steps.{IsTwoLineStep}
+use Rattle.matching_state.specs.DirectSteps.{IsTwoLineStep}
 use Rattle.matching_state.proofs.OneStep.{two_lines_in, two_lines_only}
 use Rattle.matching_state.proofs.Ties.{in_line_vector, misses_to, misses_from}
 use Rattle.matching_state.proofs.laws.two_lines_take_the_place_of_one.Goals as goal

@@ -1,5 +1,5 @@
 use Rattle.std.proofs.Common.{ℕ, ◌<◌, map}
-use Rattle.matching_state.specs.Steps.{HasDeterminantAt}
+use Rattle.matching_state.specs.DirectSteps.{HasDeterminantAt}
 use Rattle.matching_state.proofs.step.independent_pair.Given as goal
 
 abbrev pub invariant-loop-i : goal.invariant-loop-i

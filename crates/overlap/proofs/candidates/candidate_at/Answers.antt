@@ -1,6 +1,6 @@
 use Rattle.std.proofs.Common.{refl, ◌∙◌, subst}
 use Rattle.echelon.specs.Residues.{IsResidue}
-use Rattle.matching_state.specs.Places.{IsPlace}
+use Rattle.matching_state.specs.LinePlaces.{IsPlace}
 use Rattle.matching_state.proofs.Ties.{in_line_vector}
 use Rattle.parity_lines.specs.Problems.{IsProblem, vectors_at}
 use Rattle.overlap.proofs.candidates.candidate_at.Goals as goal

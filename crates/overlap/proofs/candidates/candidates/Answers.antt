@@ -1,5 +1,5 @@
 use Rattle.std.proofs.Common.{◌≡◌, ◌+◌, MatchOption, subst}
-use Rattle.matching_state.specs.Places.{IsExposed}
+use Rattle.matching_state.specs.LinePlaces.{IsExposed}
 use Rattle.overlap.specs.Candidates.{IsCandidate, AreCandidates}
 use Rattle.overlap.proofs.CandidateTies.{line_written, line_left}
 use Rattle.overlap.proofs.candidates.candidates.Goals as goal

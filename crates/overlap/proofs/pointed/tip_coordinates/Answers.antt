@@ -1,5 +1,5 @@
 use Rattle.std.proofs.Common.{◌∙◌, subst}
-use Rattle.matching_state.specs.Places.{IsPlace}
+use Rattle.matching_state.specs.LinePlaces.{IsPlace}
 use Rattle.matching_state.proofs.Ties.{in_line_vector}
 use Rattle.parity_lines.specs.Problems.{IsProblem}
 use Rattle.overlap.proofs.pointed.tip_coordinates.Goals as goal

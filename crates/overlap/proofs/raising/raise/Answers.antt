@@ -1,5 +1,5 @@
 use Rattle.std.proofs.Common.{length, map, subst}
-use Rattle.exchanges.specs.Steps.{TellsMoved}
+use Rattle.exchanges.specs.StepsToward.{TellsMoved}
 use Rattle.overlap.proofs.Raised.{lines_named, within_state, state_never_settles}
 use Rattle.overlap.proofs.raising.raise.Goals as goal
 use Rattle.parity_lines.specs.Problems.{IsProblem}

@@ -1,6 +1,6 @@
 use Rattle.std.proofs.Common.{rules, subst}
 use Rattle.std.specs.Prelude.{IsTrue}
-use Rattle.matching_state.specs.Places.{IsPlace}
+use Rattle.matching_state.specs.LinePlaces.{IsPlace}
 use Rattle.worked_cases.proofs.walks.exchange.Goals as goal
 
 pub swap-requires-clause-support : goal.swap-requires-clause-support

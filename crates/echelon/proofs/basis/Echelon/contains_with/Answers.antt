@@ -3,7 +3,7 @@ use Rattle.field_core.specs.Matrix.{Matrix}
 use Rattle.field_core.proofs.Values.{vector_of_values}
 use Rattle.linear_algebra.specs.Spans.{InSpan}
 use Rattle.linear_algebra.specs.Vectors.{zero_vector}
-use Rattle.echelon.specs.Steps.{reduced}
+use Rattle.echelon.specs.Eliminations.{reduced}
 use Rattle.echelon.proofs.Residue.{zero_exactly_in_span}
 use Rattle.echelon.proofs.basis.Echelon.contains_with.Goals as goal
 

@@ -2,7 +2,7 @@ use Rattle.std.proofs.Common.{◌≡◌, ◌++◌, ◌∷◌, [], map, length, a
 use Rattle.field_core.specs.Matrix.{Matrix}
 use Rattle.linear_algebra.specs.Spans.{InSpan}
 use Rattle.echelon.specs.Found.{Finds}
-use Rattle.echelon.specs.Steps.{taken}
+use Rattle.echelon.specs.Eliminations.{taken}
 use Rattle.echelon.proofs.Insertion.{step_taken, still_outside, matrix_more}
 use Rattle.echelon.proofs.basis.Echelon.insert.Goals as goal
 

@@ -3,7 +3,7 @@ use Rattle.field_core.specs.Matrix.{Matrix}
 use Rattle.linear_algebra.specs.Vectors.{AreVectors}
 use Rattle.linear_algebra.specs.Ranks.{rank}
 use Rattle.linear_algebra.proofs.RankLaws.{rank_of_independent}
-use Rattle.echelon.specs.Steps.{taken}
+use Rattle.echelon.specs.Eliminations.{taken}
 use Rattle.echelon.proofs.Insertion.{length-taken}
 use Rattle.echelon.proofs.Reduction.{taken-vectors}
 use Rattle.echelon.proofs.basis.Echelon.rank.Goals as goal

@@ -2,7 +2,7 @@ use Rattle.std.proofs.Common.{map, sym, ap, ◌∙◌, subst}
 use Rattle.field_core.specs.Matrix.{Matrix}
 use Rattle.field_core.proofs.Values.{vector_of_values}
 use Rattle.echelon.specs.Residues.{IsResidue}
-use Rattle.echelon.specs.Steps.{reduced, taken}
+use Rattle.echelon.specs.Eliminations.{reduced, taken}
 use Rattle.echelon.proofs.Residue.{reduced_is_residue}
 use Rattle.echelon.proofs.basis.Echelon.reduce_in_place.Goals as goal
 

@@ -1,6 +1,6 @@
 use Rattle.std.proofs.Common.{◌≤◌, length, take, ap, ◌∙◌, arith, List, ℕ}
 use Rattle.field_core.specs.Matrix.{Matrix}
-use Rattle.echelon.specs.Steps.{taken}
+use Rattle.echelon.specs.Eliminations.{taken}
 use Rattle.echelon.proofs.Insertion.{length-taken}
 use Rattle.echelon.proofs.Prefixes.{kept_is_echelon, taken-take}
 use Rattle.echelon.proofs.basis.Echelon.truncate.Goals as goal
