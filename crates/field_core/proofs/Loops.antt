@@ -64,9 +64,11 @@ module _ (S : Scalars) where
   abbrev pub scaled : ℕ → ℕ → List ℕ → List ℕ
   scaled i c u = multiple S c (take i u) ++ drop i u
 
-  pub scaled_more : {X : Type 0} (f : X → ℕ) (xs : List X) (u : List ℕ) (c i : ℕ) (x z : X) → i < length xs → length u ≡ length xs → x ≡ get_or xs i x → f z ≡ S.product c (f (get_or xs i x)) → map f xs ≡ scaled i c u → map f (set xs i z) ≡ scaled (i + 1) c u
+  pub scaled_more : {X : Type 0} (f : X → ℕ) (xs : List X) (u : List ℕ) (c i : ℕ) (x z : X) → i < length xs → length u ≡ length xs →
+      x ≡ get_or xs i x → f z ≡ S.product c (f (get_or xs i x)) → map f xs ≡ scaled i c u → map f (set xs i z) ≡ scaled (i + 1) c u
   scaled_more f xs u c i x z h lu is_x is_z so_far =
       let done : List ℕ = multiple S c (take i u) in
       let ld : length done ≡ i = length-multiple_front u c i (omega arith) in
-      let value : f z ≡ S.product c (get_or u i 0) = is_z ∙ ap (S.product c) (ap f (sym is_x) ∙ read_next f xs u done i x h (omega arith) ld so_far is_x) in
+      let value : f z ≡ S.product c (get_or u i 0) = is_z ∙ ap (S.product c)
+      (ap f (sym is_x) ∙ read_next f xs u done i x h (omega arith) ld so_far is_x) in
       map-write_next f xs u done i z (omega arith) ld so_far ∙ ap (λ t. t ++ drop (i + 1) u) (ap (λ a. done ++ a ∷ []) value ∙ sym (multiple_more u c i (omega arith)))

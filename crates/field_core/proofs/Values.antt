@@ -15,7 +15,9 @@ module _ (S : Scalars) {X : Type 0} (f : X → ℕ) (in_scalars : (x : X) → Is
   vector_of_values v d e = record { length_is = length-map v f ∙ e; entries = numbers_of_values v }
 
   -- `held` and `seen` are the rows before, as they are kept and as they are seen
-  pub push_values : (held seen : Matrix) (rows : List (List ℕ)) (row : List ℕ) (v : List X) → All (IsVector S held.width) held.rows → held ≡ seen → length v ≡ seen.width → row ≡ map f v → rows ≡ held.rows ++ row ∷ [] → All (IsVector S held.width) rows
+  pub push_values : (held seen : Matrix) (rows : List (List ℕ)) (row : List ℕ) (v : List X) → All (IsVector S held.width) held.rows →
+      held ≡ seen → length v ≡ seen.width → row ≡ map f v → rows ≡ held.rows ++ row ∷ [] → All (IsVector S held.width) rows
   push_values held seen rows row v before same long is_row is_pushed =
-      let is_vector : IsVector S held.width row = subst (IsVector S held.width) (sym is_row) (vector_of_values v held.width (long ∙ sym (ap (λ (m : Matrix). m.width) same))) in
+      let is_vector : IsVector S held.width row = subst (IsVector S held.width) (sym is_row)
+      (vector_of_values v held.width (long ∙ sym (ap (λ (m : Matrix). m.width) same))) in
       subst (All (IsVector S held.width)) (sym is_pushed) (All-push (IsVector S held.width) held.rows row before is_vector)

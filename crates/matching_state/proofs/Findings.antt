@@ -191,16 +191,21 @@ module _ (S : Scalars) (F : IsField S) (p : ParityProblem) (P : IsProblem S p) (
       rest_found = record { long = tip_vector.length_is; in_line = in_line_tip; in_set = tip_in_set; beside = beside_one; single = λ z. (single_found z).1; exposed = λ n'. (exposed_found n').own }
 
     -- as the calls make them: seen is what is seen of the residue a, and start of v
-    pub free_made : (b seen : List ℕ) → IsResidue S p.dimension (vectors_at p M) v b → seen ≡ a → ((c : ℕ) → IsScalar S c → b ≢ multiple S c seen) → rank_beside S p M e ≡ 2
+    pub free_made : (b seen : List ℕ) → IsResidue S p.dimension (vectors_at p M) v b → seen ≡ a →
+        ((c : ℕ) → IsScalar S c → b ≢ multiple S c seen) → rank_beside S p M e ≡ 2
     free_made b seen q is no_multiple = free_found b q (λ c k z. no_multiple c k (z ∙ ap (multiple S c) (sym is)))
 
-    pub rest_made : (b seen start tip : List ℕ) (c k : ℕ) → IsResidue S p.dimension (vectors_at p M) v b → IsScalar S c → IsScalar S k → S.sum c k ≡ S.zero → b ≡ multiple S c seen → seen ≡ a → start ≡ v → tip ≡ vector_sum S start (multiple S k u) → IsRest S p M e tip
-    rest_made b seen start tip c k q hc hk z is is_seen is_start is_tip = rest_found b q c k hc hk z (is ∙ ap (multiple S c) is_seen) tip (is_tip ∙ ap (λ t. vector_sum S t (multiple S k u)) is_start)
+    pub rest_made : (b seen start tip : List ℕ) (c k : ℕ) → IsResidue S p.dimension (vectors_at p M) v b → IsScalar S c → IsScalar S k →
+        S.sum c k ≡ S.zero → b ≡ multiple S c seen → seen ≡ a → start ≡ v → tip ≡ vector_sum S start (multiple S k u) → IsRest S p M e tip
+    rest_made b seen start tip c k q hc hk z is is_seen is_start is_tip =
+        rest_found b q c k hc hk z (is ∙ ap (multiple S c) is_seen) tip (is_tip ∙ ap (λ t. vector_sum S t (multiple S k u)) is_start)
 
 -- the two vectors of a line, as they are seen
 pub line_seen : (p q r : ParityProblem) (e : ℕ) (u v : List ℕ) → u ≡ (line_at q e).0 → q ≡ p → v ≡ (line_at r e).1 → r ≡ p → AreOfLine p e u v
-line_seen p q r e u v is_u is_q is_v is_r = inl (ap₂ (λ x y. (x, y)) (sym (is_u ∙ ap (λ s. (line_at s e).0) is_q)) (sym (is_v ∙ ap (λ s. (line_at s e).1) is_r)))
+line_seen p q r e u v is_u is_q is_v is_r =
+    inl (ap₂ (λ x y. (x, y)) (sym (is_u ∙ ap (λ s. (line_at s e).0) is_q)) (sym (is_v ∙ ap (λ s. (line_at s e).1) is_r)))
 
 -- a residue of which a test told that it is zero
-pub zero_seen : (S : Scalars) {X : Type 0} (f : X → ℕ) (slice : List X) (a : List ℕ) (d : ℕ) (b : Bool) → map f slice ≡ a → length slice ≡ length a → length a ≡ d → IsTrue b ↔ (map f slice ≡ zero_vector S (length slice)) → IsTrue b → a ≡ zero_vector S d
+pub zero_seen : (S : Scalars) {X : Type 0} (f : X → ℕ) (slice : List X) (a : List ℕ) (d : ℕ) (b : Bool) → map f slice ≡ a →
+    length slice ≡ length a → length a ≡ d → IsTrue b ↔ (map f slice ≡ zero_vector S (length slice)) → IsTrue b → a ≡ zero_vector S d
 zero_seen S f slice a d b is long wide t h = sym is ∙ t.0 h ∙ ap (zero_vector S) (long ∙ wide)

@@ -48,7 +48,8 @@ zero_window S f xs i h = (
 
 -- so a test of these entries tells it
 pub zero_told : (S : Scalars) {X : Type 0} (f : X → ℕ) (xs : List X) (i : ℕ) (b : Bool) → 2 * i + 1 < length xs →
-    IsTrue b ↔ (map f (take (2 * i + 2 - 2 * i) (drop (2 * i) xs)) ≡ replicate (length (take (2 * i + 2 - 2 * i) (drop (2 * i) xs))) S.zero) → IsTrue b ↔ IsZeroAt S (map f xs) i
+    IsTrue b ↔ (map f (take (2 * i + 2 - 2 * i) (drop (2 * i) xs)) ≡ replicate (length (take (2 * i + 2 - 2 * i) (drop (2 * i) xs)))
+    S.zero) → IsTrue b ↔ IsZeroAt S (map f xs) i
 zero_told S f xs i b h t = let w = zero_window S f xs i h in (λ k. w.0 (t.0 k), λ z. t.1 (w.1 z))
 
 -- a list stays increasing with one above the others
@@ -145,7 +146,8 @@ module _ (S : Scalars) (M cs : List ℕ) where
             go (inr e) = In-append_right m L (a ∷ []) (inl e.0)
 
     -- L is written with the line at i behind
-    pub support_written : (pushed after : List ℕ) (n : ℕ) → after ≡ pushed → pushed ≡ L ++ n ∷ [] → n ≡ slice_index M i → ¬ (IsZeroAt S cs i) → IsSupport S (take (i + 1) M) cs after
+    pub support_written : (pushed after : List ℕ) (n : ℕ) → after ≡ pushed → pushed ≡ L ++ n ∷ [] → n ≡ slice_index M i →
+        ¬ (IsZeroAt S cs i) → IsSupport S (take (i + 1) M) cs after
     support_written pushed after n e e' is z = subst (IsSupport S (take (i + 1) M) cs) (sym (e ∙ e' ∙ ap (λ m. L ++ m ∷ []) is)) (support_pushed z)
 
   pub support_whole : (i : ℕ) (L : List ℕ) → length M ≤ i → IsSupport S (take i M) cs L → IsSupport S M cs L

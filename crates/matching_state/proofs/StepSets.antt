@@ -126,8 +126,11 @@ step_of M N m e h j k a = record {
     back l (inr i) = elim (from l i) as (λ _. In l (e ∷ h ∷ M)) [ inl c ↦ inr (inr c.0) | inr q ↦ elim q [ inl r ↦ inl r | inr r ↦ inr (inl r) ] ]
 
 -- L is M, and n what it has at i
-pub taken_away : (K L M : List ℕ) (n i : ℕ) → L ≡ M → n ≡ get_or L i 0 → ((l : ℕ) → Contains K l ↔ (Contains L l × (l ≢ n))) → (l : ℕ) → Contains K l ↔ (Contains M l × (l ≢ get_or M i 0))
-taken_away K L M n i e is t = subst (λ N. (l : ℕ) → Contains K l ↔ (Contains N l × (l ≢ get_or N i 0))) e (subst (λ m. (l : ℕ) → Contains K l ↔ (Contains L l × (l ≢ m))) is t)
+pub taken_away : (K L M : List ℕ) (n i : ℕ) → L ≡ M → n ≡ get_or L i 0 → ((l : ℕ) → Contains K l ↔ (Contains L l × (l ≢ n))) → (l : ℕ) →
+    Contains K l ↔ (Contains M l × (l ≢ get_or M i 0))
+taken_away K L M n i e is t =
+    subst (λ N. (l : ℕ) → Contains K l ↔ (Contains N l × (l ≢ get_or N i 0))) e
+    (subst (λ m. (l : ℕ) → Contains K l ↔ (Contains L l × (l ≢ m))) is t)
 
 -- the set without m, then with e, then with h
 pub two_line_step : (M K H N : List ℕ) (m e h : ℕ) → Contains M m → ¬ (Contains M e) → ¬ (Contains M h) → e ≢ h → ((l : ℕ) → Contains K l ↔ (Contains M l × (l ≢ m))) → ((l : ℕ) → Contains H l ↔ (Contains K l ⊎ (l ≡ e))) →

@@ -46,8 +46,11 @@ module _ {X : Type 0} (S : Scalars) (p : ParityProblem) (M : List ℕ) where
   })
 
   -- as a vector that a call wrote
-  pub line_written : (n : ℕ) (xs : List (Exposure X)) (pushed after : Vec (Exposure X) Global) (x : Exposure X) → after ≡ pushed → pushed.items ≡ xs ++ x ∷ [] → AreExposed S p M n xs → x.line ≡ n → IsExposure S p M x → AreExposed S p M (n + 1) after.items
+  pub line_written : (n : ℕ) (xs : List (Exposure X)) (pushed after : Vec (Exposure X) Global) (x : Exposure X) → after ≡ pushed →
+      pushed.items ≡ xs ++ x ∷ [] → AreExposed S p M n xs → x.line ≡ n → IsExposure S p M x → AreExposed S p M (n + 1) after.items
   line_written n xs pushed after x e e' a l h = line_kept n xs after.items x (ap (λ (v : Vec (Exposure X) Global). v.items) e ∙ e') a l h
 
-  pub line_left : (n : ℕ) (before after : Vec (Exposure X) Global) → after ≡ before → AreExposed S p M n before.items → rank_beside S p M n ≢ 2 → ¬ (IsExposed S p M n) → AreExposed S p M (n + 1) after.items
-  line_left n before after e a f o = subst (λ (v : Vec (Exposure X) Global). AreExposed S p M (n + 1) v.items) (sym e) (line_passed n before.items a f o)
+  pub line_left : (n : ℕ) (before after : Vec (Exposure X) Global) → after ≡ before → AreExposed S p M n before.items →
+      rank_beside S p M n ≢ 2 → ¬ (IsExposed S p M n) → AreExposed S p M (n + 1) after.items
+  line_left n before after e a f o =
+      subst (λ (v : Vec (Exposure X) Global). AreExposed S p M (n + 1) v.items) (sym e) (line_passed n before.items a f o)

@@ -56,12 +56,15 @@ module _ {X : Type 0} (S : Scalars) (p : ParityProblem) (M : List ℕ) where
   })
 
   -- as a vector that a call wrote
-  pub line_written : (n : ℕ) (xs : List (Candidate X)) (pushed after : Vec (Candidate X) Global) (x : Candidate X) → after ≡ pushed → pushed.items ≡ xs ++ x ∷ [] → AreCandidates S p M n xs → x.line ≡ n →
+  pub line_written : (n : ℕ) (xs : List (Candidate X)) (pushed after : Vec (Candidate X) Global) (x : Candidate X) → after ≡ pushed →
+      pushed.items ≡ xs ++ x ∷ [] → AreCandidates S p M n xs → x.line ≡ n →
       IsCandidate S p M x → AreCandidates S p M (n + 1) after.items
   line_written n xs pushed after x e e' a l h = line_kept n xs after.items x (ap (λ (v : Vec (Candidate X) Global). v.items) e ∙ e') a l h
 
-  pub line_left : (n : ℕ) (before after : Vec (Candidate X) Global) → after ≡ before → AreCandidates S p M n before.items → ¬ (IsExposed S p M n) → AreCandidates S p M (n + 1) after.items
-  line_left n before after e a o = subst (λ (v : Vec (Candidate X) Global). AreCandidates S p M (n + 1) v.items) (sym e) (line_passed n before.items a o)
+  pub line_left : (n : ℕ) (before after : Vec (Candidate X) Global) → after ≡ before → AreCandidates S p M n before.items →
+      ¬ (IsExposed S p M n) → AreCandidates S p M (n + 1) after.items
+  line_left n before after e a o =
+      subst (λ (v : Vec (Candidate X) Global). AreCandidates S p M (n + 1) v.items) (sym e) (line_passed n before.items a o)
 
 module _ (S : Scalars) (F : IsField S) (p : ParityProblem) (P : IsProblem S p) (M : List ℕ) (i : IsIndependentSet S p M) {X : Type 0} where
   module _ (x y : Candidate X) (a : IsCandidate S p M x) (b : IsCandidate S p M y) where

@@ -107,7 +107,8 @@ module _ (S : Scalars) (F : IsField S) (p : ParityProblem) (P : IsProblem S p) (
   whole_sum half whole v y e q r k = k ∙ ap₂ (vector_sum S) e (ap₂ (multiple S) q r) ∙ line_more
 
 -- the same of values: n is the line at i, and u and v are what is seen of its vectors
-module _ (S : Scalars) (F : IsField S) (p : ParityProblem) (P : IsProblem S p) (M : List ℕ) (within : All (λ m. m < length p.lines) M) {X : Type 0} (f : X → ℕ) (scalar : (x : X) → IsScalar S (f x)) (xs : List X)
+module _ (S : Scalars) (F : IsField S) (p : ParityProblem) (P : IsProblem S p) (M : List ℕ) (within : All (λ m. m < length p.lines) M)
+    {X : Type 0} (f : X → ℕ) (scalar : (x : X) → IsScalar S (f x)) (xs : List X)
     (long : length xs ≡ 2 * length M) (i : ℕ) (h : i < length M) where
   pub numbers : IsVector S (2 * length M) (map f xs)
   numbers = vector_of_values S f scalar xs (2 * length M) long
@@ -121,12 +122,18 @@ module _ (S : Scalars) (F : IsField S) (p : ParityProblem) (P : IsProblem S p) (
   pub first_fits : {Y : Type 0} (sum : List ℕ) (u : List Y) → sum ≡ sum_before → length u ≡ p.dimension → length u ≡ length sum
   first_fits sum u e k = k ∙ sym (ap length e ∙ (before-vector S F p P M within (map f xs) numbers i h).length_is)
 
-  pub half_made : (sum half u : List ℕ) (x : X) (n : ℕ) → sum ≡ sum_before → x ≡ get_or xs (2 * i) x → u ≡ (line_at p n).0 → n ≡ get_or M i 0 → half ≡ vector_sum S sum (multiple S (f x) u) → half ≡ with_first
-  half_made sum half u x n e is_x is_u is_n k = half_sum S F p P M within (map f xs) numbers i h sum half u (f x) e (sym (entry_read f xs (2 * i) x (omega arith) is_x)) (is_u ∙ ap (λ (m : ℕ). (line_at p m).0) is_n) k
+  pub half_made : (sum half u : List ℕ) (x : X) (n : ℕ) → sum ≡ sum_before → x ≡ get_or xs (2 * i) x → u ≡ (line_at p n).0 →
+      n ≡ get_or M i 0 → half ≡ vector_sum S sum (multiple S (f x) u) → half ≡ with_first
+  half_made sum half u x n e is_x is_u is_n k =
+      half_sum S F p P M within (map f xs) numbers i h sum half u (f x) e (sym (entry_read f xs (2 * i) x (omega arith) is_x))
+      (is_u ∙ ap (λ (m : ℕ). (line_at p m).0) is_n) k
 
   pub second_fits : {Y : Type 0} (half : List ℕ) (v : List Y) → half ≡ with_first → length v ≡ p.dimension → length v ≡ length half
   second_fits half v e k = k ∙ sym (ap length e ∙ (half-vector S F p P M within (map f xs) numbers i h).length_is)
 
-  pub whole_made : (half whole v : List ℕ) (y : X) (n : ℕ) → half ≡ with_first → y ≡ get_or xs (2 * i + 1) y → v ≡ (line_at p n).1 → n ≡ get_or M i 0 → whole ≡ vector_sum S half (multiple S (f y) v) →
+  pub whole_made : (half whole v : List ℕ) (y : X) (n : ℕ) → half ≡ with_first → y ≡ get_or xs (2 * i + 1) y → v ≡ (line_at p n).1 →
+      n ≡ get_or M i 0 → whole ≡ vector_sum S half (multiple S (f y) v) →
       whole ≡ combination S p.dimension (take (2 * (i + 1)) (map f xs)) (vectors_at p (take (i + 1) M))
-  whole_made half whole v y n e is_y is_v is_n k = whole_sum S F p P M within (map f xs) numbers i h half whole v (f y) e (sym (entry_read f xs (2 * i + 1) y (omega arith) is_y)) (is_v ∙ ap (λ (m : ℕ). (line_at p m).1) is_n) k
+  whole_made half whole v y n e is_y is_v is_n k =
+      whole_sum S F p P M within (map f xs) numbers i h half whole v (f y) e (sym (entry_read f xs (2 * i + 1) y (omega arith) is_y))
+      (is_v ∙ ap (λ (m : ℕ). (line_at p m).1) is_n) k

@@ -55,7 +55,8 @@ module _ (S : Scalars) (c : ℕ) (cs ds : List ℕ) where
   }
 
   -- as a row that shows them
-  pub kept_row : {X : Type 0} (f : X → ℕ) (i : ℕ) (ks shown : List X) (row : List ℕ) → i ≡ length cs / 2 → shown ≡ ks → row ≡ map f shown → AreKeptBelow S c cs ds i (map f ks) → AreKept S c cs ds row
+  pub kept_row : {X : Type 0} (f : X → ℕ) (i : ℕ) (ks shown : List X) (row : List ℕ) → i ≡ length cs / 2 → shown ≡ ks → row ≡ map f shown →
+      AreKeptBelow S c cs ds i (map f ks) → AreKept S c cs ds row
   kept_row f i ks shown row e is is_row h = subst (AreKept S c cs ds) (sym (is_row ∙ ap (map f) is)) (kept_all i (map f ks) e h)
 
 -- a b' and a' b are the same, and c is the inverse of a: b times c is the ratio of both pairs

@@ -196,12 +196,18 @@ module _ (S : Scalars) (F : IsField S) (d : ℕ) (vs : List (List ℕ)) where
   none_so_far basis n w e = subst (λ m. IsReducedSoFar 0 m) (sym e) (record { width = w; reduced = reduced_none })
 
   -- whether a row is zero is told by what is seen of it
-  pub zero_told : {X : Type 0} (f : X → ℕ) (slice : List X) (u : List ℕ) (b : Bool) → map f slice ≡ u → length slice ≡ length u → IsVector S d u → IsTrue b ↔ (map f slice ≡ zero_vector S (length slice)) → IsTrue b ↔ (u ≡ zero_vector S d)
-  zero_told f slice u b is long u_in t = let zeros = ap (zero_vector S) (long ∙ u_in.length_is) in (λ h. sym is ∙ t.0 h ∙ zeros, λ e. t.1 (is ∙ e ∙ sym zeros))
+  pub zero_told : {X : Type 0} (f : X → ℕ) (slice : List X) (u : List ℕ) (b : Bool) → map f slice ≡ u → length slice ≡ length u →
+      IsVector S d u → IsTrue b ↔ (map f slice ≡ zero_vector S (length slice)) → IsTrue b ↔ (u ≡ zero_vector S d)
+  zero_told f slice u b is long u_in t =
+      let zeros = ap (zero_vector S) (long ∙ u_in.length_is) in (λ h. sym is ∙ t.0 h ∙ zeros, λ e. t.1 (is ∙ e ∙ sym zeros))
 
   -- the row at p is kept if it isn't zero
-  pub more_so_far : AreVectors S d vs → (p : ℕ) (basis pushed after : Matrix) (u seen : List ℕ) → IsReducedSoFar p basis → IsRowAt S d vs p u → u ≢ zero_vector S d → after ≡ pushed → pushed ≡ record basis { rows = basis.rows ++ seen ∷ [] } → seen ≡ u → IsReducedSoFar (p + 1) after
-  more_so_far V p basis pushed after u seen r a n e e' is = subst (λ m. IsReducedSoFar (p + 1) m) (sym (e ∙ e' ∙ ap (λ v. record basis { rows = basis.rows ++ v ∷ [] }) is)) (record { width = r.width; reduced = reduced_push V p basis.rows r.reduced u a n })
+  pub more_so_far : AreVectors S d vs → (p : ℕ) (basis pushed after : Matrix) (u seen : List ℕ) → IsReducedSoFar p basis →
+      IsRowAt S d vs p u → u ≢ zero_vector S d → after ≡ pushed → pushed ≡ record basis { rows = basis.rows ++ seen ∷ [] } → seen ≡ u →
+      IsReducedSoFar (p + 1) after
+  more_so_far V p basis pushed after u seen r a n e e' is =
+      subst (λ m. IsReducedSoFar (p + 1) m) (sym (e ∙ e' ∙ ap (λ v. record basis { rows = basis.rows ++ v ∷ [] }) is))
+      (record { width = r.width; reduced = reduced_push V p basis.rows r.reduced u a n })
 
   pub same_so_far : AreVectors S d vs → (p : ℕ) (basis after : Matrix) (u : List ℕ) → IsReducedSoFar p basis → IsRowAt S d vs p u → u ≡ zero_vector S d → after ≡ basis → IsReducedSoFar (p + 1) after
   same_so_far V p basis after u r a z e = subst (λ m. IsReducedSoFar (p + 1) m) (sym e) (record { width = r.width; reduced = reduced_skip V p basis.rows r.reduced u a z })

@@ -65,5 +65,6 @@ module _ (S : Scalars) (F : IsField S) (d : ℕ) (vs : List (List ℕ)) (V : Are
 pub row_made : (S : Scalars) (F : IsField S) (d : ℕ) (vs : List (List ℕ)) (V : AreVectors S d vs) (p n : ℕ) (e e' r r' u : List ℕ) (o m : ℕ) → n ≡ d → p < n → e ≡ set (zero_vector S n) p S.one → e' ≡ e → IsResidue S d vs e' r → r' ≡ r → IsScalar S m → o ≡ S.one → S.sum o m ≡ S.zero
     → u ≡ vector_sum S e (multiple S m r') → IsRowAt S d vs p u
 row_made S F d vs V p n e e' r r' u o m is_d l is_e seen_e res seen_r m_in is_o minus is_u =
-    row_is_at S F d vs V p (subst (λ k. p < k) is_d l) e r u m (is_e ∙ ap (λ k. set (zero_vector S k) p S.one) is_d) (subst (λ v. IsResidue S d vs v r) seen_e res) m_in (ap (λ a. S.sum a m) (sym is_o) ∙ minus)
+    row_is_at S F d vs V p (subst (λ k. p < k) is_d l) e r u m (is_e ∙ ap (λ k. set (zero_vector S k) p S.one) is_d)
+    (subst (λ v. IsResidue S d vs v r) seen_e res) m_in (ap (λ a. S.sum a m) (sym is_o) ∙ minus)
     (is_u ∙ ap (λ v. vector_sum S e (multiple S m v)) seen_r)

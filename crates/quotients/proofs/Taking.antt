@@ -16,11 +16,14 @@ tail_of f slice cs first e = ap (map f) (take_all (length slice - first) (drop f
 
 -- an old vector
 pub takes_old : {X Y Z : Type 0} (S : Scalars) (f : Y → ℕ) (basis added common after common' : Matrix) (w : List ℕ) (found : Inserted Z) (cs : List ℕ) (slice : List Y) (rank many : ℕ) (part pushed : List ℕ) → found ≡ Old cs → Inserts S basis w after found →
-    map f slice ≡ cs → rank ≡ length after.rows → many ≡ length added.rows → added.width ≡ basis.width → IsVector S added.width part → w ≡ vector_sum S part (combination S added.width (map f (take (length slice - (rank - many)) (drop (rank - many) slice))) added.rows) → pushed ≡ part → common' ≡ with_row common pushed →
+    map f slice ≡ cs → rank ≡ length after.rows → many ≡ length added.rows → added.width ≡ basis.width → IsVector S added.width part → w ≡
+    vector_sum S part (combination S added.width (map f (take (length slice - (rank - many)) (drop (rank - many) slice))) added.rows) →
+    pushed ≡ part → common' ≡ with_row common pushed →
     Takes {X = X} S (record { basis = basis; added = added; common = common }) w (record { basis = after; added = added; common = common' })
 takes_old S f basis added common after common' w found cs slice rank many part pushed is i shown is_rank is_many width part_in sum is_pushed c =
     let old = subst (λ x. Inserts S basis w after x) is i in
-    let first_is : rank - many ≡ length basis.rows - length added.rows = ap₂ (λ m n. m - n) (is_rank ∙ ap (λ (m : Matrix). length m.rows) old.1) is_many in
+    let first_is : rank - many ≡ length basis.rows - length added.rows = ap₂ (λ m n. m - n)
+    (is_rank ∙ ap (λ (m : Matrix). length m.rows) old.1) is_many in
     inr (record {
       basis = old.1;
       added = refl;
@@ -28,6 +31,8 @@ takes_old S f basis added common after common' w found cs slice rank many part p
       combine = old.0;
       part = part;
       vector = subst (λ d. IsVector S d part) width part_in;
-      sum = sum ∙ ap (vector_sum S part) (ap₂ (λ d ds. combination S d ds added.rows) width (tail_of f slice cs (rank - many) shown ∙ ap (λ n. drop n cs) first_is));
+      sum =
+          sum ∙ ap (vector_sum S part) (ap₂ (λ d ds. combination S d ds added.rows) width
+          (tail_of f slice cs (rank - many) shown ∙ ap (λ n. drop n cs) first_is));
       common = c ∙ ap (with_row common) is_pushed;
     })

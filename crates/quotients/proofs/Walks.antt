@@ -189,7 +189,9 @@ module _ (S : Scalars) (F : IsField S) (us : Matrix) where
       sum_is = t.sum ∙ ap₂ (λ m i. vector_sum S t.part (combination S m (drop i t.coefficients) before.added.rows)) k.basis_width base_long
 
       combine_is : Combines S d (k.base.rows ++ before.added.rows) t.coefficients w
-      combine_is = subst (λ vs. Combines S d vs t.coefficients w) k.basis_rows (subst (λ m. Combines S m before.basis.rows t.coefficients w) k.basis_width t.combine)
+      combine_is =
+          subst (λ vs. Combines S d vs t.coefficients w) k.basis_rows
+          (subst (λ m. Combines S m before.basis.rows t.coefficients w) k.basis_width t.combine)
 
       parts : InSpan S d k.base.rows t.part × InSpan S d before.added.rows rest
       parts = split_old S F d k.base.rows before.added.rows t.coefficients w t.part base_vectors added_vectors combine_is part_vector sum_is
@@ -199,7 +201,8 @@ module _ (S : Scalars) (F : IsField S) (us : Matrix) where
 
       part_more : InSpan S d (ws ++ w ∷ []) t.part
       part_more = difference_in S F d (ws ++ w ∷ []) w t.part rest more part_vector rest_vector sum_is w_more
-          (span_through S F d before.added.rows (ws ++ w ∷ []) rest added_vectors more rest_vector (weaker before.added.rows added_vectors k.added_in) parts.1)
+          (span_through S F d before.added.rows (ws ++ w ∷ []) rest added_vectors more rest_vector
+          (weaker before.added.rows added_vectors k.added_in) parts.1)
 
       common_more_vectors : AreVectors S d common_more
       common_more_vectors = All-push (IsVector S d) before.common.rows t.part common_vectors part_vector
@@ -215,7 +218,8 @@ module _ (S : Scalars) (F : IsField S) (us : Matrix) where
 
       sum_spanned : InSpan S d (common_more ++ before.added.rows) (vector_sum S t.part rest)
       sum_spanned = span_sum S F d (common_more ++ before.added.rows) t.part rest both_vectors part_vector rest_vector
-          (span_member S F d (common_more ++ before.added.rows) t.part both_vectors (In-append_left t.part common_more before.added.rows (In-append_right t.part before.common.rows (t.part ∷ []) (inl refl))))
+          (span_member S F d (common_more ++ before.added.rows) t.part both_vectors
+          (In-append_left t.part common_more before.added.rows (In-append_right t.part before.common.rows (t.part ∷ []) (inl refl))))
           (span_append_right S F d common_more before.added.rows rest both_vectors rest_vector parts.1)
 
       all_spanned : All (InSpan S d (common_more ++ before.added.rows)) (ws ++ w ∷ [])
@@ -236,8 +240,13 @@ module _ (S : Scalars) (F : IsField S) (us : Matrix) where
         common_width = width_of after.common (with_row before.common t.part) t.common ∙ k.common_width;
         seen = more;
         independent = subst (λ vs. IsIndependent S d (k.base.rows ++ vs)) (sym added_same) k.independent;
-        in_first = subst (All (InSpan S d k.base.rows)) (sym common_is) (All-push (InSpan S d k.base.rows) before.common.rows t.part k.in_first parts.0);
-        in_second = subst (All (InSpan S d (ws ++ w ∷ []))) (sym common_is) (All-push (InSpan S d (ws ++ w ∷ [])) before.common.rows t.part (weaker before.common.rows common_vectors k.in_second) part_more);
+        in_first =
+            subst (All (InSpan S d k.base.rows)) (sym common_is)
+            (All-push (InSpan S d k.base.rows) before.common.rows t.part k.in_first parts.0);
+        in_second =
+            subst (All (InSpan S d (ws ++ w ∷ []))) (sym common_is)
+            (All-push (InSpan S d (ws ++ w ∷ [])) before.common.rows t.part (weaker before.common.rows common_vectors k.in_second)
+            part_more);
         added_in = subst (All (InSpan S d (ws ++ w ∷ []))) (sym added_same) (weaker before.added.rows added_vectors k.added_in);
         spanned = spanned_after;
       }
@@ -247,8 +256,11 @@ module _ (S : Scalars) (F : IsField S) (us : Matrix) where
     walk_more (inr t) = walk_old t
 
   -- one more of the vectors
-  pub walk_next : {X : Type 0} (ws : List (List ℕ)) (before after : Walk X) (i : ℕ) (w : List ℕ) → i < length ws → w ≡ get_or ws i [] → IsVector S d w → IsWalk (take i ws) before → Takes S before w after → IsWalk (take (i + 1) ws) after
-  walk_next ws before after i w l is w_in k t = subst (λ vs. IsWalk vs after) (ap (λ x. take i ws ++ x ∷ []) is ∙ sym (take_more ws i [] l)) (walk_more (take i ws) before after w k w_in t)
+  pub walk_next : {X : Type 0} (ws : List (List ℕ)) (before after : Walk X) (i : ℕ) (w : List ℕ) → i < length ws → w ≡ get_or ws i [] →
+      IsVector S d w → IsWalk (take i ws) before → Takes S before w after → IsWalk (take (i + 1) ws) after
+  walk_next ws before after i w l is w_in k t =
+      subst (λ vs. IsWalk vs after) (ap (λ x. take i ws ++ x ∷ []) is ∙ sym (take_more ws i [] l))
+      (walk_more (take i ws) before after w k w_in t)
 
   -- at the end of the walk
   pub walk_whole : {X : Type 0} (ws : Matrix) (walk : Walk X) → IsWalk ws.rows walk → SpansMeeting S us ws walk.common
@@ -270,7 +282,8 @@ module _ (S : Scalars) (F : IsField S) (us : Matrix) where
       }
 
 -- after the last of the vectors
-pub walk_ended : (S : Scalars) (F : IsField S) (us : Matrix) {X : Type 0} (ws : Matrix) (walk : Walk X) (i : ℕ) → length ws.rows ≤ i → IsWalk S F us (take i ws.rows) walk → SpansMeeting S us ws walk.common
+pub walk_ended : (S : Scalars) (F : IsField S) (us : Matrix) {X : Type 0} (ws : Matrix) (walk : Walk X) (i : ℕ) → length ws.rows ≤ i →
+    IsWalk S F us (take i ws.rows) walk → SpansMeeting S us ws walk.common
 walk_ended S F us ws walk i l k = walk_whole S F us ws walk (subst (λ vs. IsWalk S F us vs walk) (take_all i ws.rows l) k)
 
 pub meets_as : (S : Scalars) (dimension : ℕ) (us ws vectors us' ws' : Matrix) → dimension ≡ us.width → us ≡ us' → ws ≡ ws' → SpansMeeting S us ws vectors → (s : Matrix) → HasElements S s (InSpan S dimension vectors.rows) → HasElements S s (λ x. InSpan S us'.width us'.rows x × InSpan S us'.width ws'.rows x)

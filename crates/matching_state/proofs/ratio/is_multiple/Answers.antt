@@ -11,6 +11,7 @@ returns-then-ne g c = (
       let x = c.index-v-i.result in
       let y = c.index-other-i.result in
       let z = c.mul.result in
-      absurd (no_multiple g.F.Field.scalars f c.args.v.now c.args.other.now (f c.args.factor) c.loop-i.i x y z (g.F.PartialEq.eq z y) c.ne.result (omega arith) (omega arith) c.index-v-i.is c.index-other-i.is c.mul.ensures
+      absurd (no_multiple g.F.Field.scalars f c.args.v.now c.args.other.now (f c.args.factor) c.loop-i.i x y z (g.F.PartialEq.eq z y)
+      c.ne.result (omega arith) (omega arith) c.index-v-i.is c.index-other-i.is c.mul.ensures
       (g.met.F.Field.equals z y).1 c.ne.ensures c.if-ne.true e),
 )

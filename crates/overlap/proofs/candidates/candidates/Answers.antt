@@ -17,7 +17,8 @@ loop-line-preserved g c =
       | in-Some+in_ok-push w ↦
           let k = subst (λ found. MatchOption found (¬ (IsExposed S p M n)) (λ x. (x.line ≡ n) × IsCandidate S p M x)) w.in-Some.is
           c.in_ok-candidate.ensures in
-          line_written S p M n before.items w.push.new.self after w.in-Some.candidate w.found-is w.in_ok-push.ensures.items c.loop-line.invariant k.0 k.1
+          line_written S p M n before.items w.push.new.self after w.in-Some.candidate w.found-is w.in_ok-push.ensures.items
+          c.loop-line.invariant k.0 k.1
       | in_default w ↦ line_left S p M n before after w.found-is c.loop-line.invariant
           (subst (λ found. MatchOption found (¬ (IsExposed S p M n)) (λ x. (x.line ≡ n) × IsCandidate S p M x)) w.in_default.is
           c.in_ok-candidate.ensures)

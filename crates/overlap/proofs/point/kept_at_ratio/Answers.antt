@@ -19,4 +19,5 @@ returns g c =
     let ds : List ℕ = map f c.args.second.now in
     let e : length cs ≡ length c.args.first.now = length-map c.args.first.now f in
     IfOk-weaker c.copy_of.result _ _
-    (λ row is. kept_row S (f c.args.factor) cs ds f c.loop-i.i c.loop-i.kept.items c.deref.result.now row (omega arith) c.deref.ensures.value is c.loop-i.invariant) c.copy_of.ensures
+    (λ row is. kept_row S (f c.args.factor) cs ds f c.loop-i.i c.loop-i.kept.items c.deref.result.now row (omega arith)
+    c.deref.ensures.value is c.loop-i.invariant) c.copy_of.ensures

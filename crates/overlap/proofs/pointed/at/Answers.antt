@@ -29,7 +29,8 @@ point_of-requires-clause-common g c =
     let t = c.in_ok-one.ensures in
     let t' = c.in_ok-other.ensures in
     let f = g.F.Field.number in
-    both_seen S c.in_ok-one.one c.in_ok-other.other (map f c.as_slice.result.now) (map f c.as_slice-2.result.now) c.as_slice.ensures.value c.as_slice-2.ensures.value
+    both_seen S c.in_ok-one.one c.in_ok-other.other (map f c.as_slice.result.now) (map f c.as_slice-2.result.now) c.as_slice.ensures.value
+    c.as_slice-2.ensures.value
     (common_index S g.met.F.Field.lawful p P c.args.state.now.set c.set-set.ensures.independent c.args.first c.args.second c.requires.first_within
     c.requires.second_within c.requires.overlap t.0 c.in_ok-one.one t'.0 c.in_ok-other.other t.1 t'.1)
 
@@ -41,7 +42,8 @@ point_of-requires-clause-proportional g c =
     let t = c.in_ok-one.ensures in
     let t' = c.in_ok-other.ensures in
     let f = g.F.Field.number in
-    proportional_seen S c.in_ok-one.one c.in_ok-other.other (map f c.as_slice.result.now) (map f c.as_slice-2.result.now) c.as_slice.ensures.value c.as_slice-2.ensures.value
+    proportional_seen S c.in_ok-one.one c.in_ok-other.other (map f c.as_slice.result.now) (map f c.as_slice-2.result.now)
+    c.as_slice.ensures.value c.as_slice-2.ensures.value
     (proportional_at S g.met.F.Field.lawful p P c.args.state.now.set c.set-set.ensures.independent c.args.first c.args.second c.requires.first_within
     c.requires.second_within c.requires.overlap c.requires.no_step t.0 c.in_ok-one.one t'.0 c.in_ok-other.other t.1 t'.1)
 
@@ -56,7 +58,8 @@ invariant_of-result g c =
     let t' = c.in_ok-other.ensures in
     let x = c.in_ok-point.point in
     let f = g.F.Field.number in
-    let r = point_seen S c.in_ok-one.one c.in_ok-other.other (map f c.as_slice.result.now) (map f c.as_slice-2.result.now) c.as_slice.ensures.value c.as_slice-2.ensures.value p M x c.in_ok-point.ensures in
+    let r = point_seen S c.in_ok-one.one c.in_ok-other.other (map f c.as_slice.result.now) (map f c.as_slice-2.result.now)
+    c.as_slice.ensures.value c.as_slice-2.ensures.value p M x c.in_ok-point.ensures in
     let made : IsPointed S (record { problem = p; set = M; first = c.args.first; second = c.args.second; point = x }) = record {
       independent = i;
       no_step = c.requires.no_step;
@@ -66,4 +69,5 @@ invariant_of-result g c =
       point = is_point S g.met.F.Field.lawful p P M i c.args.first c.args.second c.requires.first_within c.requires.second_within
           c.requires.overlap t.0 c.in_ok-one.one t'.0 c.in_ok-other.other t.1 t'.1 x r;
     } in
-    pointed_seen S p c.problem-problem.result.now M c.set-set.result.now c.in_ok-copied.field-0 c.args.first c.args.second x c.problem-problem.ensures c.in_ok-copied.ensures c.set-set.ensures.value made
+    pointed_seen S p c.problem-problem.result.now M c.set-set.result.now c.in_ok-copied.field-0 c.args.first c.args.second x
+    c.problem-problem.ensures c.in_ok-copied.ensures c.set-set.ensures.value made

@@ -31,5 +31,6 @@ unreachable-requires g c =
     let t = lines_named T o.set c.set.result.now o.first o.second c.lines-first.result.0 c.lines-first.result.1 c.set.ensures.value e.first e.second
     c.in_ok-target.ensures.1 in
     state_never_settles S g.met.F.Field.lawful o.problem P o.set c.set.ensures.independent o.first o.second e.first_within e.second_within e.overlap
-    o.point c.point.ensures.is_point T t c.in_ok-state.state q c.args.set.now N keep (map g.F.Field.number c.point.result.now) (length c.point.result.now) c.in_ok-state.ensures c.problem-problem.ensures c.in_ok-keep.ensures
+    o.point c.point.ensures.is_point T t c.in_ok-state.state q c.args.set.now N keep (map g.F.Field.number c.point.result.now)
+    (length c.point.result.now) c.in_ok-state.ensures c.problem-problem.ensures c.in_ok-keep.ensures
     c.point.ensures.value c.requires.as_long w.kept (subst (TellsMoved S c.in_ok-state.state.problem keep.rows T N) c.in-Settled.is w.moved)

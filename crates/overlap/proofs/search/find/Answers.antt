@@ -22,7 +22,8 @@ returns g c =
     let p = c.args.state.now.problem in
     let xs = c.in_ok-exposed.exposed.items in
     let P = subst (IsProblem S) {x = c.problem-problem.result.now} {y = p} c.problem-problem.ensures c.len-lines.ensures.problem in
-    let none = subst (λ ys. All (λ x. All (λ y. ¬ (DoOverlap S (length x.residue) x y)) ys) ys) {x = c.deref.result.now} {y = xs} c.deref.ensures.value
+    let none = subst (λ ys. All (λ x. All (λ y. ¬ (DoOverlap S (length x.residue) x y)) ys) ys) {x = c.deref.result.now} {y = xs}
+    c.deref.ensures.value
     (subst (λ found. MatchOption found (All (λ x. All (λ y. ¬ (DoOverlap S (length x.residue) x y)) c.deref.result.now) c.deref.result.now)
     (λ pair. HaveOverlap S c.deref.result.now pair.0 pair.1)) c.in-None.is c.in_ok-first.ensures) in
     no_pair_no_overlap S g.met.F.Field.lawful p P c.args.state.now.set c.set-set.ensures.independent xs c.in_ok-exposed.ensures none

@@ -10,7 +10,8 @@ loop-i-init g c =
     let f = g.F.Field.number in
     let rows = c.args.rows.now in
     let v = c.args.v.now in
-    less_none S g.met.F.Field.lawful rows.width (map f c.args.coefficients.now) rows.rows (map f v) c.in_ok-left.left (vector_of_values S f g.met.F.Field.is_scalar v rows.width c.requires.width) c.in_ok-left.ensures
+    less_none S g.met.F.Field.lawful rows.width (map f c.args.coefficients.now) rows.rows (map f v) c.in_ok-left.left
+    (vector_of_values S f g.met.F.Field.is_scalar v rows.width c.requires.width) c.in_ok-left.ensures
 
 pub loop-i-preserved : goal.loop-i-preserved
 loop-i-preserved g c =

@@ -14,13 +14,17 @@ loop-position-preserved g c =
     let f = g.F.Field.number in
     let span = c.args.span.now in
     let row = c.in_ok-row.ensures in
-    let told = zero_told S F span.width span.rows f c.as_slice.result.now c.in_ok-row.row c.is_zero.result c.as_slice.ensures.value c.as_slice.ensures.len row.vector c.is_zero.ensures in
+    let told = zero_told S F span.width span.rows f c.as_slice.result.now c.in_ok-row.row c.is_zero.result c.as_slice.ensures.value
+    c.as_slice.ensures.len row.vector c.is_zero.ensures in
     elim c.if-not-is_zero.branch [
       | then-not-is_zero+in_ok-push w ↦
-          more_so_far S F span.width span.rows c.rank-rank.ensures.vectors c.loop-position.position c.loop-position.basis w.push.new.self c.if-not-is_zero.basis c.in_ok-row.row (map f w.as_slice-then-not-is_zero.result.now)
-          c.loop-position.invariant row (λ e. false≢true (sym w.if-not-is_zero.true ∙ told.1 e)) w.basis-is w.in_ok-push.ensures.ok w.as_slice-then-not-is_zero.ensures.value
+          more_so_far S F span.width span.rows c.rank-rank.ensures.vectors c.loop-position.position c.loop-position.basis w.push.new.self
+          c.if-not-is_zero.basis c.in_ok-row.row (map f w.as_slice-then-not-is_zero.result.now)
+          c.loop-position.invariant row (λ e. false≢true (sym w.if-not-is_zero.true ∙ told.1 e)) w.basis-is w.in_ok-push.ensures.ok
+          w.as_slice-then-not-is_zero.ensures.value
       | else-not-is_zero w ↦
-          same_so_far S F span.width span.rows c.rank-rank.ensures.vectors c.loop-position.position c.loop-position.basis c.if-not-is_zero.basis c.in_ok-row.row c.loop-position.invariant row (told.0 w.if-not-is_zero.false) w.basis-is
+          same_so_far S F span.width span.rows c.rank-rank.ensures.vectors c.loop-position.position c.loop-position.basis
+          c.if-not-is_zero.basis c.in_ok-row.row c.loop-position.invariant row (told.0 w.if-not-is_zero.false) w.basis-is
     ]
 
 pub returns : goal.returns

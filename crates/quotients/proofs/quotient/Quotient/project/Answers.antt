@@ -8,7 +8,8 @@ use Rattle.quotients.proofs.quotient.Quotient.project.Goals as goal
 pub without-requires : goal.without-requires
 without-requires g c =
     let f = g.F.Field.number in
-    let long = cleared_long g.F.Field.scalars f c.args.v.now c.as_slice-point.result.now c.self.inside.point c.args.self.now c.in_ok-cleared.cleared c.add_multiple.new.self (f c.clearing-factor.result)
+    let long = cleared_long g.F.Field.scalars f c.args.v.now c.as_slice-point.result.now c.self.inside.point c.args.self.now
+    c.in_ok-cleared.cleared c.add_multiple.new.self (f c.clearing-factor.result)
     c.self.view_is c.requires c.as_slice-point.ensures.value c.in_ok-cleared.ensures c.add_multiple.ensures in
     let within = c.self.invariant.pivot.in_range in
     let same = c.as_slice.ensures.len in
@@ -21,6 +22,8 @@ returns g c =
     let v = c.args.v.now in
     let shown = map f c.as_slice.result.now in
     if_ok c.without.result (λ w. w ≡ remove shown c.self.inside.pivot) (ProjectsBy S c.args.self.now (map f v)) (λ w.
-    projects S f c.self.inside.point c.args.self.now c.self.inside.pivot c.self.view_is c.self.invariant v c.as_slice-point.result.now c.in_ok-cleared.cleared c.add_multiple.new.self shown w
-    c.index-v-self.result c.index-point-self.result c.clearing-factor.result (g.met.F.Field.is_scalar c.clearing-factor.result) c.as_slice-point.ensures.value c.requires c.index-v-self.is c.index-point-self.is c.clearing-factor.ensures
+    projects S f c.self.inside.point c.args.self.now c.self.inside.pivot c.self.view_is c.self.invariant v c.as_slice-point.result.now
+    c.in_ok-cleared.cleared c.add_multiple.new.self shown w
+    c.index-v-self.result c.index-point-self.result c.clearing-factor.result (g.met.F.Field.is_scalar c.clearing-factor.result)
+    c.as_slice-point.ensures.value c.requires c.index-v-self.is c.index-point-self.is c.clearing-factor.ensures
     c.in_ok-cleared.ensures c.add_multiple.ensures c.as_slice.ensures.value) c.without.ensures
