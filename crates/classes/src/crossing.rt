@@ -49,6 +49,7 @@ pub fn missing_both<F: Field>(
     requires other_missed { Misses F.scalars problem.now other.now (map F.number u.now ∷ []) }
     ensures { IfOk result (TellsCrossing F.scalars problem.now (length set.now) (map F.number o.now) (map F.number a.now) (map F.number u.now) (map F.number b.now)) }
 {
+    let _lines = problem.len();
     match transit(alloc, problem, set, o, apart, a)? {
         Shared::Larger(larger) => Ok(Crossing::Larger(larger)),
         Shared::First(first) => Ok(Crossing::First(first)),

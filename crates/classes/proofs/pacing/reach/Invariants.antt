@@ -1,5 +1,6 @@
-use Rattle.std.proofs.Common.{◌≡◌}
+use Rattle.std.proofs.Common.{◌≡◌, []}
 use Rattle.classes.specs.Pacing.{KeepsCounts}
+use Rattle.classes.proofs.PacedTies.{IsWalk}
 use Rattle.parity_theory.proofs.Nearness.{left_over}
 use Rattle.classes.proofs.pacing.reach.Given as goal
 
@@ -7,6 +8,7 @@ abbrev pub invariant-loop-larger : goal.invariant-loop-larger
 invariant-loop-larger g l = record {
   problem : l.state.problem ≡ l.initial.state.problem;
   counts : KeepsCounts l.labels l.initial.state.set l.state.set;
+  walk : IsWalk g.F.Field.scalars l.state.problem l.labels [] l.o l.target l.state.set;
 }
 
 abbrev pub decreases-loop-larger : goal.decreases-loop-larger
