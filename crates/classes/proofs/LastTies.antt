@@ -18,7 +18,6 @@ use Rattle.linear_algebra.specs.Spans.{InSpan}
 use Rattle.linear_algebra.specs.Vectors.{IsVector, AreVectors}
 use Rattle.linear_algebra.proofs.Coordinates.{tuple, space}
 use Rattle.linear_algebra.proofs.Elements.{Element, scalar_field}
-use Rattle.linear_algebra.proofs.IndependenceLaws.{one_vector}
 use Rattle.exchanges.proofs.SettledSets.{settled_at_set}
 use Rattle.exchanges.specs.Exchanges.{IsExchangeToward, IsSettled}
 use Rattle.classes.specs.Ends.{IsSetOf}
@@ -127,4 +126,4 @@ module _ {A : Type 0} (S : Scalars) (F : IsField S) (p : ParityProblem) (labels 
 -- before the first step
 pub last_misses : (S : Scalars) (F : IsField S) (p : ParityProblem) → IsProblem S p → (labels T o v M : List ℕ) → All (λ m. m < length p.lines) M →
     IsVector S p.dimension o → IsLasting S F p labels T o v M → Misses S p M (o ∷ [])
-last_misses S F p P labels T o v M h q k = misses_from S F p P M (o ∷ []) h (one_vector S F p.dimension o q) k.parted.invariant.missed
+last_misses S F p P labels T o v M h q k = misses_from S F p P M (o ∷ []) h (All-cons (IsVector S p.dimension) o [] q (All-nil (IsVector S p.dimension))) k.parted.invariant.missed

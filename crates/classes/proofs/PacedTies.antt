@@ -1,19 +1,20 @@
 -- Walks toward a target by steps from sets whose supports stay in their classes: what they keep, and that they do not
 -- settle too early.
-use Rattle.std.proofs.Common.{◌≡◌, ℕ, suc, List, [], ◌∷◌, ◌++◌, append-nil, length, arith, refl, sym, ◌∙◌, subst}
+use Rattle.std.proofs.Common.{◌≡◌, ℕ, suc, List, [], ◌∷◌, ◌++◌, append-nil, length, arith, refl, sym, ◌∙◌, subst, true, false, Option, None, Some, MatchOption}
 use Rattle.std.specs.Prelude.{slice_index}
-use Rattle.std.proofs.lemmas.List.Elements.{All-nil}
+use Rattle.std.specs.Option.{is_some}
+use Rattle.std.proofs.lemmas.Bool.{false≢true}
+use Rattle.std.proofs.lemmas.List.Elements.{All-nil, All-cons}
 use Rattle.vector_spaces.proofs.Independence.{appended_is_outside, same_length_spans}
 use Rattle.vector_spaces.proofs.Space.{Space}
 use Rattle.vector_spaces.proofs.Tuples.{Tuple}
 use Rattle.vector_spaces.proofs.Within.{Within, through}
 use Rattle.class_theory.proofs.ClosedSteps.{closed_step_keeps_counts}
 use Rattle.linear_algebra.specs.Scalars.{Scalars, IsField}
-use Rattle.linear_algebra.specs.Spans.{InSpan, IsIndependent}
+use Rattle.linear_algebra.specs.Spans.{Combines, InSpan, IsIndependent}
 use Rattle.linear_algebra.specs.Vectors.{IsVector, AreVectors}
 use Rattle.linear_algebra.proofs.Coordinates.{tuple, space}
 use Rattle.linear_algebra.proofs.Elements.{Element, scalar_field}
-use Rattle.linear_algebra.proofs.IndependenceLaws.{one_vector}
 use Rattle.linear_algebra.proofs.Transfer.{tuples_of}
 use Rattle.exchanges.proofs.ReachedSets.{kept_by_exchange, nearer_by_exchange}
 use Rattle.exchanges.proofs.SettledSets.{settled_at_set}
@@ -51,6 +52,17 @@ misses_none S p M i = subst (IsIndependent S p.dimension) (sym (append-nil (vect
 pub pace_told : (S : Scalars) (p : ParityProblem) (labels : List ℕ) (held keep : List (List ℕ)) (T M N : List ℕ) (told variant : Paced) →
     held ≡ keep → told ≡ variant → TellsPace S p labels held T M N told → TellsPace S p labels keep T M N variant
 pace_told S p labels held keep T M N told variant e is t = subst (TellsPace S p labels keep T M N) is (subst (λ vs. TellsPace S p labels vs T M N told) e t)
+
+-- what the coefficients that are found tell of the span
+pub found_inside : (S : Scalars) (d : ℕ) (vs : List (List ℕ)) (x : List ℕ) (found : Option (List ℕ)) → is_some found ≡ true →
+    MatchOption found (¬ (InSpan S d vs x)) (λ cs. Combines S d vs cs x) → InSpan S d vs x
+found_inside S d vs x None e t = absurd (false≢true e)
+found_inside S d vs x (Some cs) e t = record { coefficients = cs; combine = t }
+
+pub found_outside : (S : Scalars) (d : ℕ) (vs : List (List ℕ)) (x : List ℕ) (found : Option (List ℕ)) → is_some found ≡ false →
+    MatchOption found (¬ (InSpan S d vs x)) (λ cs. Combines S d vs cs x) → ¬ (InSpan S d vs x)
+found_outside S d vs x None e t = t
+found_outside S d vs x (Some cs) e t = absurd (false≢true (sym e))
 
 -- what holds at each set M of a walk toward T, at the problem of its state: M misses keep, and o is as long as vectors
 pub record IsWalk {A : Type 0} (S : Scalars) (p : ParityProblem) (labels : List ℕ) (keep : List (List ℕ)) (o : List A) (T M : List ℕ) : Type 0 where
@@ -118,5 +130,5 @@ reach_never_settles S F p labels q T M W o v n c s =
     let back = same_length_spans sp (vectors line T) (vectors line M) target w
     (omega (arith, length-vectors line M, length-vectors line T)) in
     appended_is_outside sp (vectors line T) (tuple S F p.dimension o)
-    (misses_to S F p W.problem T (o ∷ []) t.line_set.within (one_vector S F p.dimension o v) n)
+    (misses_to S F p W.problem T (o ∷ []) t.line_set.within (All-cons (IsVector S p.dimension) o [] v (All-nil (IsVector S p.dimension))) n)
     (through sp (vectors line M) (vectors line T) (tuple S F p.dimension o) back (span_to S F p W.problem M o W.set.line_set.within c))
