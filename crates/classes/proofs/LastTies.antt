@@ -1,5 +1,5 @@
 -- The last exchanges of a problem, in the space of tuples: what they keep, and how they end.
-use Rattle.std.proofs.Common.{◌≡◌, ◌<◌, ℕ, All, Bool, inl, inr, List, [], ◌∷◌, ◌++◌, length, arith, refl, sym, subst}
+use Rattle.std.proofs.Common.{◌<◌, ℕ, All, Bool, inl, inr, List, [], ◌∷◌, ◌++◌, length, arith, refl, sym, subst}
 use Rattle.std.specs.Prelude.{slice_index}
 use Rattle.std.specs.List.{filter}
 use Rattle.std.proofs.lemmas.List.Elements.{All-nil, All-cons, All-head}
@@ -9,7 +9,7 @@ use Rattle.vector_spaces.proofs.Space.{Field, Space}
 use Rattle.vector_spaces.proofs.Span.{InSpan as InSpan_of, span_member, span_plus}
 use Rattle.vector_spaces.proofs.Sublists.{sub_in}
 use Rattle.vector_spaces.proofs.Tuples.{Tuple}
-use Rattle.vector_spaces.proofs.Within.{Within, right_in, within_append, within_cons, within_left, within_nil, within_self, through}
+use Rattle.vector_spaces.proofs.Within.{right_in, within_append, within_cons, within_left, within_nil, within_self, through}
 use Rattle.class_theory.proofs.Classes.{of_label, of_label-same}
 use Rattle.class_theory.proofs.Components.{components_stay, others, spanned_or_wide}
 use Rattle.class_theory.proofs.LastExchanges.{last_never_settles}
@@ -19,15 +19,14 @@ use Rattle.linear_algebra.specs.Vectors.{IsVector, AreVectors}
 use Rattle.linear_algebra.proofs.Coordinates.{tuple, space}
 use Rattle.linear_algebra.proofs.Elements.{Element, scalar_field}
 use Rattle.exchanges.proofs.SettledSets.{settled_at_set}
-use Rattle.exchanges.specs.Exchanges.{IsExchangeToward, IsSettled}
-use Rattle.classes.specs.Ends.{IsSetOf}
+use Rattle.exchanges.specs.Exchanges.{IsSettled, StillMisses}
 use Rattle.classes.specs.Lasting.{IsLasting}
-use Rattle.classes.specs.Supports.{IsClosed}
+use Rattle.classes.specs.Pacing.{TellsPace}
+use Rattle.classes.specs.declared.pacing.Paced.TheVariants.{Moved}
 use Rattle.classes.proofs.PacedTies.{IsWalk, stays_in_class, step_of_walk}
 use Rattle.matching_state.specs.Missing.{Misses}
 use Rattle.matching_state.proofs.Ties.{misses_from, misses_to, span_from, span_to}
 use Rattle.parity_lines.proofs.Border.{tuples_at}
-use Rattle.parity_lines.specs.LineSets.{IsLineSet, IsIndependentSet}
 use Rattle.parity_lines.specs.Problems.{ParityProblem, IsProblem, vectors_at}
 use Rattle.parity_theory.proofs.Lines.{vectors, Misses as Misses_of}
 use Rattle.parity_theory.proofs.Positions.{length-missing, sub_filter, within_lines}
@@ -68,9 +67,9 @@ module _ {A : Type 0} (S : Scalars) (F : IsField S) (p : ParityProblem) (labels 
       (misses_to S F p W.problem T (o ∷ k.part ∷ []) W.target.independent.line_set.within (with_o k.part k.parted.part) k.missed)
       (settled_at_set S F p W.problem M W.set (o ∷ []) W.keeps W.missed T W.target.independent.line_set.within s W.target.independent)
 
-  module _ (c : IsClosed S p labels M) (out into : ℕ) (N : List ℕ) (w : IsExchangeToward S p (o ∷ []) T M out into N) (l : IsLineSet p N) where
+  module _ (N : List ℕ) (m : TellsPace S p labels (o ∷ []) T M N Moved) (l : StillMisses S p (o ∷ []) M N) where
     abbrev step : StepToward sp line M (tuple S F p.dimension o ∷ []) T
-    step = step_of_walk S F p labels (o ∷ []) q T M W c out into N w l
+    step = step_of_walk S F p labels (o ∷ []) q T M W N m l
 
     after : Misses_of sp line N (tuple S F p.dimension o ∷ [])
     after = step_misses sp line M (tuple S F p.dimension o ∷ []) T step
@@ -78,11 +77,11 @@ module _ {A : Type 0} (S : Scalars) (F : IsField S) (p : ParityProblem) (labels 
     -- the new set spans v: it has the parts that M had
     pub last_goes_on : InSpan S p.dimension (vectors_at p N) v → IsLasting S F p labels T o v N
     last_goes_on a =
-        let r = components_stay sp line (of_label (slice_index labels) k.label) M out into N step.tip step.outer step.cs
+        let r = components_stay sp line (of_label (slice_index labels) k.label) M m.1.0 m.1.1 N step.tip step.outer step.cs
         (tuple S F p.dimension k.part) k.parted.rest step.swap step.exposed
-        (λ g j. of_label-same (slice_index labels) k.label g into (stays_in_class S F p labels (o ∷ []) q T M W c out into N w l g j))
+        (λ g j. of_label-same (slice_index labels) k.label g m.1.1 (stays_in_class S F p labels (o ∷ []) q T M W N m l g j))
         k.parted.invariant.inside k.parted.invariant.others
-        (subst (λ x. InSpan_of sp (vectors line N) x) (sym k.parted.sum) (span_to S F p W.problem N v l.within a)) in record {
+        (subst (λ x. InSpan_of sp (vectors line N) x) (sym k.parted.sum) (span_to S F p W.problem N v l.independent.line_set.within a)) in record {
           label = k.label;
           part = k.part;
           parted = record {
@@ -97,7 +96,7 @@ module _ {A : Type 0} (S : Scalars) (F : IsField S) (p : ParityProblem) (labels 
 
     -- it doesn't span v: it misses o and v together
     pub last_ends : ¬ (InSpan S p.dimension (vectors_at p N) v) → Misses S p N (o ∷ v ∷ [])
-    last_ends n = misses_from S F p W.problem N (o ∷ v ∷ []) l.within (with_o v k.parted.is_vector)
+    last_ends n = misses_from S F p W.problem N (o ∷ v ∷ []) l.independent.line_set.within (with_o v k.parted.is_vector)
         (missed_of_wide sp line N (tuple S F p.dimension o) (tuple S F p.dimension v) wide)
       where
         X : List (Tuple (Element S) p.dimension)
@@ -116,11 +115,11 @@ module _ {A : Type 0} (S : Scalars) (F : IsField S) (p : ParityProblem) (labels 
             (part_spanned J (tuple S F p.dimension k.part) k.parted.invariant.inside) (part_spanned (others J) k.parted.rest k.parted.invariant.others))
 
         wide : IsWide sp line N X
-        wide = elim (spanned_or_wide sp line M out into N step.tip step.outer (tuple S F p.dimension o) (tuple S F p.dimension v) step.cs X
+        wide = elim (spanned_or_wide sp line M m.1.0 m.1.1 N step.tip step.outer (tuple S F p.dimension o) (tuple S F p.dimension v) step.cs X
             step.swap step.exposed step.outer_missed after spanned (span_member _ sp X (tuple S F p.dimension v) (inl refl))
             (span_member _ sp X (tuple S F p.dimension o) (inr (inl refl)))) [
               | inl a ↦ a
-              | inr a ↦ absurd (n (span_from S F p W.problem N v l.within k.parted.is_vector a))
+              | inr a ↦ absurd (n (span_from S F p W.problem N v l.independent.line_set.within k.parted.is_vector a))
             ]
 
 -- before the first step

@@ -1,6 +1,6 @@
 -- Walks toward a target by steps from sets whose supports stay in their classes: what they keep, and that they do not
 -- settle too early.
-use Rattle.std.proofs.Common.{◌≡◌, ℕ, suc, List, [], ◌∷◌, ◌++◌, append-nil, length, arith, refl, sym, ◌∙◌, subst, true, false, Option, None, Some, MatchOption}
+use Rattle.std.proofs.Common.{◌≡◌, ℕ, suc, List, [], ◌∷◌, append-nil, length, arith, refl, sym, ◌∙◌, subst, true, false, Option, None, Some, MatchOption}
 use Rattle.std.specs.Prelude.{slice_index}
 use Rattle.std.specs.Option.{is_some}
 use Rattle.std.proofs.lemmas.Bool.{false≢true}
@@ -16,20 +16,20 @@ use Rattle.linear_algebra.specs.Vectors.{IsVector, AreVectors}
 use Rattle.linear_algebra.proofs.Coordinates.{tuple, space}
 use Rattle.linear_algebra.proofs.Elements.{Element, scalar_field}
 use Rattle.linear_algebra.proofs.Transfer.{tuples_of}
-use Rattle.exchanges.proofs.ReachedSets.{kept_by_exchange, nearer_by_exchange}
+use Rattle.exchanges.proofs.ReachedSets.{nearer_by_exchange}
 use Rattle.exchanges.proofs.SettledSets.{settled_at_set}
-use Rattle.exchanges.specs.Exchanges.{IsExchangeToward, IsSettled, StillMisses}
+use Rattle.exchanges.specs.Exchanges.{IsSettled, StillMisses}
 use Rattle.classes.specs.Ends.{IsSetOf}
 use Rattle.classes.specs.Pacing.{KeepsCounts, TellsPace}
-use Rattle.classes.specs.Supports.{IsClosed}
 use Rattle.classes.specs.declared.pacing.Paced.{Paced}
+use Rattle.classes.specs.declared.pacing.Paced.TheVariants.{Moved}
 use Rattle.classes.proofs.StepTies.{into_within, step_of_exchange}
 use Rattle.matching_state.specs.Missing.{Misses}
 use Rattle.matching_state.proofs.OneStep.{tuples_independent}
 use Rattle.matching_state.proofs.Ties.{misses_to, span_to}
 use Rattle.matching_state.proofs.TipsOfTuples.{support_of_tuples}
 use Rattle.parity_lines.proofs.Border.{tuples_at}
-use Rattle.parity_lines.specs.LineSets.{IsLineSet, IsIndependentSet}
+use Rattle.parity_lines.specs.LineSets.{IsIndependentSet}
 use Rattle.parity_lines.specs.Problems.{ParityProblem, IsProblem, vectors_at}
 use Rattle.parity_theory.proofs.Lines.{vectors}
 use Rattle.parity_theory.proofs.Nearness.{left_over}
@@ -48,10 +48,14 @@ keeps_counts_refl labels M = record { as_long = refl; counts = λ c. refl }
 pub misses_none : (S : Scalars) (p : ParityProblem) (M : List ℕ) → IsIndependentSet S p M → Misses S p M []
 misses_none S p M i = subst (IsIndependent S p.dimension) (sym (append-nil (vectors_at p M))) i.independent
 
--- what a step tells, at what is kept and at the variant
+-- what a step tells, and what it keeps, at the vectors that are held and at the variant
 pub pace_told : (S : Scalars) (p : ParityProblem) (labels : List ℕ) (held keep : List (List ℕ)) (T M N : List ℕ) (told variant : Paced) →
-    held ≡ keep → told ≡ variant → TellsPace S p labels held T M N told → TellsPace S p labels keep T M N variant
-pace_told S p labels held keep T M N told variant e is t = subst (TellsPace S p labels keep T M N) is (subst (λ vs. TellsPace S p labels vs T M N told) e t)
+    held ≡ keep → told ≡ variant → TellsPace S p labels held T M N told → StillMisses S p held M N →
+    TellsPace S p labels keep T M N variant × StillMisses S p keep M N
+pace_told S p labels held keep T M N told variant e is t k = (
+  subst (TellsPace S p labels keep T M N) is (subst (λ vs. TellsPace S p labels vs T M N told) e t),
+  subst (λ vs. StillMisses S p vs M N) e k,
+)
 
 -- what the coefficients that are found tell of the span
 pub found_inside : (S : Scalars) (d : ℕ) (vs : List (List ℕ)) (x : List ℕ) (found : Option (List ℕ)) → is_some found ≡ true →
@@ -82,37 +86,39 @@ module _ {A : Type 0} (S : Scalars) (F : IsField S) (p : ParityProblem) (labels 
   abbrev line : ℕ → Tuple (Element S) p.dimension × Tuple (Element S) p.dimension
   line = tuples_at S F p
 
-  pub walk_goes_on : (N : List ℕ) → StillMisses S p keep M N → IsWalk S p labels keep o T N
-  walk_goes_on N k = record {
-    problem = W.problem;
-    labelled = W.labelled;
-    long = W.long;
-    keeps = W.keeps;
-    missed = k.missed;
-    set = k.independent;
-    target = record { independent = W.target.independent; size = W.target.size ∙ sym k.as_long };
-  }
-
   -- an exchange from a set whose supports stay in their classes
-  module _ (c : IsClosed S p labels M) (out into : ℕ) (N : List ℕ) (w : IsExchangeToward S p keep T M out into N) (l : IsLineSet p N) where
+  module _ (N : List ℕ) (m : TellsPace S p labels keep T M N Moved) (k : StillMisses S p keep M N) where
     abbrev pub step_of_walk : StepToward sp line M (tuples_of S F p.dimension keep) T
-    step_of_walk = step_of_exchange S F p W.problem M W.set keep W.keeps W.missed T W.target.independent.line_set.within out into N w l
+    step_of_walk = step_of_exchange S F p W.problem M W.set keep W.keeps W.missed T W.target.independent.line_set.within m.1.0 m.1.1 N m.1.2
+        k.independent.line_set
 
-    pub stays_in_class : (g : ℕ) → InSupport_of (scalar_field S F) g step_of_walk.cs M → slice_index labels g ≡ slice_index labels into
+    pub stays_in_class : (g : ℕ) → InSupport_of (scalar_field S F) g step_of_walk.cs M → slice_index labels g ≡ slice_index labels m.1.1
     stays_in_class g j =
-        let h = into_within S F p W.problem M W.set keep W.keeps W.missed T W.target.independent.line_set.within out into N w l in
-        c into h w.can.exposed g
-        (support_of_tuples S F p W.problem M W.set into h step_of_walk.tip step_of_walk.outer step_of_walk.cs step_of_walk.exposed g j)
+        let h = into_within S F p W.problem M W.set keep W.keeps W.missed T W.target.independent.line_set.within m.1.0 m.1.1 N m.1.2
+        k.independent.line_set in
+        m.0 m.1.1 h m.1.2.can.exposed g
+        (support_of_tuples S F p W.problem M W.set m.1.1 h step_of_walk.tip step_of_walk.outer step_of_walk.cs step_of_walk.exposed g j)
 
     pub counts_kept : KeepsCounts labels M N
     counts_kept = record {
-      as_long = (kept_by_exchange S F p W.problem keep T W.target.independent.line_set.within M N out into W.set w.can w.swap W.keeps W.missed l).as_long;
+      as_long = k.as_long;
       counts = closed_step_keeps_counts sp line (slice_index labels) M T _ step_of_walk stays_in_class;
     }
 
     pub walk_comes_nearer : suc (left_over N T) ≡ left_over M T
-    walk_comes_nearer = nearer_by_exchange S F p W.problem keep T W.target.independent.line_set.within M N out into W.set w.can w.swap
-        W.target.independent.line_set.increasing l.increasing
+    walk_comes_nearer = nearer_by_exchange S F p W.problem keep T W.target.independent.line_set.within M N m.1.0 m.1.1 W.set m.1.2.can m.1.2.swap
+        W.target.independent.line_set.increasing k.independent.line_set.increasing
+
+    pub walk_goes_on : IsWalk S p labels keep o T N
+    walk_goes_on = record {
+      problem = W.problem;
+      labelled = W.labelled;
+      long = W.long;
+      keeps = W.keeps;
+      missed = k.missed;
+      set = k.independent;
+      target = record { independent = W.target.independent; size = W.target.size ∙ sym k.as_long };
+    }
 
 -- a set that spans o does not settle toward one that misses it
 pub reach_never_settles : {A : Type 0} (S : Scalars) (F : IsField S) (p : ParityProblem) (labels : List ℕ) (q : List A) (T M : List ℕ) →

@@ -45,10 +45,11 @@ fn shared_by<F: Field>(
         Moved::Settled => {
             let basis = basis_with(state, q)?;
             let moved = state.set().copied()?;
-            match basis.coefficients(first)? {
-                None => Ok(Shared::First(moved)),
-                Some(_) => Ok(Shared::Second(moved)),
-            }
+            let found = basis.coefficients(first)?;
+            Ok(match found {
+                None => Shared::First(moved),
+                Some(_) => Shared::Second(moved),
+            })
         }
     }
 }

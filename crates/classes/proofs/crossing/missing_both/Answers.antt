@@ -16,7 +16,7 @@ returns-in-First-2 g c =
     let set = told.0.independent in (
       record { independent = set; size = told.0.size ∙ c.requires.other.size },
       missed_turned S g.met.F.Field.lawful p c.len-lines.ensures.problem c.in-First-2.both u o set
-      (vector c.args.u.now p.dimension c.requires.u_long) (vector c.args.o.now p.dimension c.requires.o_long) told.1,
+          (vector c.args.u.now p.dimension c.requires.u_long) (vector c.args.o.now p.dimension c.requires.o_long) told.1,
     )
 
 pub returns : goal.returns

@@ -1,8 +1,7 @@
-use Rattle.std.proofs.Common.{◌≡◌, ℕ, suc, List, [], ◌∷◌, map, refl, sym, ap, ◌∙◌, subst, arith}
+use Rattle.std.proofs.Common.{◌≡◌, suc, [], ◌∷◌, map, refl, sym, ap, ◌∙◌, subst, arith}
 use Rattle.std.proofs.lemmas.List.Elements.{All-nil, All-cons}
 use Rattle.linear_algebra.specs.Spans.{InSpan}
 use Rattle.linear_algebra.specs.Vectors.{IsVector}
-use Rattle.exchanges.specs.Exchanges.{StillMisses}
 use Rattle.classes.specs.Lasting.{IsLasting}
 use Rattle.classes.specs.declared.pacing.Paced.TheVariants.{Moved, Settled}
 use Rattle.classes.proofs.LastTies.{last_does_not_settle, last_ends, last_goes_on, last_misses}
@@ -52,9 +51,10 @@ unreachable-requires g c =
     let T = c.args.target.now in
     let h = c.loop-keep.invariant in
     let o = map g.F.Field.number c.args.o.now in
+    let e = c.in_ok-step_in_parts.ensures in
     let told = pace_told S q c.args.labels.now c.in_ok-keep.keep.rows (o ∷ []) T N c.step_in_parts.new.state.set c.in_ok-step_in_parts.field-0 Settled
-    (ap (λ (m : Matrix). m.rows) c.in_ok-keep.ensures) c.in-Settled.is c.in_ok-step_in_parts.ensures.pace in
-    last_does_not_settle S F q c.args.labels.now o (map g.F.Field.number c.args.vector.now) c.args.vector.now T N h.walk (h.lasting F) told.1
+    (ap (λ (m : Matrix). m.rows) c.in_ok-keep.ensures) c.in-Settled.is e.pace e.kept in
+    last_does_not_settle S F q c.args.labels.now o (map g.F.Field.number c.args.vector.now) c.args.vector.now T N h.walk (h.lasting F) told.0.1
 
 pub returns-then-is_none-clause-walk : goal.returns-then-is_none-clause-walk
 returns-then-is_none-clause-walk g c =
@@ -70,9 +70,9 @@ returns-then-is_none-clause-walk g c =
     let v = map g.F.Field.number c.args.vector.now in
     let e = c.in_ok-step_in_parts.ensures in
     let told = pace_told S q c.args.labels.now c.in_ok-keep.keep.rows (o ∷ []) T N L c.in_ok-step_in_parts.field-0 Moved
-    (ap (λ (m : Matrix). m.rows) c.in_ok-keep.ensures) c.in-Moved.is e.pace in
+    (ap (λ (m : Matrix). m.rows) c.in_ok-keep.ensures) c.in-Moved.is e.pace e.kept in
     subst (λ p. Misses S p L (o ∷ v ∷ [])) h.problem
-    (last_ends S F q c.args.labels.now o v c.args.vector.now T N h.walk (h.lasting F) told.0 told.1.0 told.1.1 L told.1.2 e.kept.independent.line_set
+    (last_ends S F q c.args.labels.now o v c.args.vector.now T N h.walk (h.lasting F) L told.0 told.1
     (subst (λ (p : ParityProblem). ¬ (InSpan S p.dimension (vectors_at p L) v)) e.problem
     (found_outside S r.dimension (vectors_at r L) v c.in_ok-coordinates.field-0 c.if-is_none.ensures c.in_ok-coordinates.ensures)))
 
@@ -87,9 +87,9 @@ loop-keep-smaller g c =
     let o = map g.F.Field.number c.args.o.now in
     let e = c.in_ok-step_in_parts.ensures in
     let told = pace_told S q labels c.in_ok-keep.keep.rows (o ∷ []) T N L c.in_ok-step_in_parts.field-0 Moved
-    (ap (λ (m : Matrix). m.rows) c.in_ok-keep.ensures) c.in-Moved.is e.pace in
+    (ap (λ (m : Matrix). m.rows) c.in_ok-keep.ensures) c.in-Moved.is e.pace e.kept in
     let nearer : suc (left_over L T) ≡ left_over N T = walk_comes_nearer S g.met.F.Field.lawful q labels (o ∷ []) c.args.vector.now T N
-    c.loop-keep.invariant.walk told.0 told.1.0 told.1.1 L told.1.2 e.kept.independent.line_set in
+    c.loop-keep.invariant.walk L told.0 told.1 in
     omega arith
 
 pub loop-keep-preserved : goal.loop-keep-preserved
@@ -105,16 +105,14 @@ loop-keep-preserved g c =
     let o = map g.F.Field.number c.args.o.now in
     let v = map g.F.Field.number c.args.vector.now in
     let e = c.in_ok-step_in_parts.ensures in
-    let rows = ap (λ (m : Matrix). m.rows) c.in_ok-keep.ensures in
-    let told = pace_told S q labels c.in_ok-keep.keep.rows (o ∷ []) T N L c.in_ok-step_in_parts.field-0 Moved rows c.in-Moved.is e.pace in
+    let told = pace_told S q labels c.in_ok-keep.keep.rows (o ∷ []) T N L c.in_ok-step_in_parts.field-0 Moved (ap (λ (m : Matrix). m.rows) c.in_ok-keep.ensures) c.in-Moved.is e.pace e.kept in
     let spanned = subst (λ (p : ParityProblem). InSpan S p.dimension (vectors_at p L) v) e.problem
     (found_inside S r.dimension (vectors_at r L) v c.in_ok-coordinates.field-0 c.if-is_none.ensures c.in_ok-coordinates.ensures) in
     record {
       problem = e.problem ∙ h.problem;
       as_long = e.kept.as_long ∙ h.as_long;
       walk = subst (λ p. IsWalk S p labels (o ∷ []) c.args.vector.now T L) (sym e.problem)
-          (walk_goes_on S g.met.F.Field.lawful q labels (o ∷ []) c.args.vector.now T N h.walk L (subst (λ vs. StillMisses S q vs N L) rows e.kept));
+          (walk_goes_on S g.met.F.Field.lawful q labels (o ∷ []) c.args.vector.now T N h.walk L told.0 told.1);
       lasting = λ G. subst (λ p. IsLasting S G p labels T o v L) (sym e.problem)
-          (last_goes_on S G q labels o v c.args.vector.now T N h.walk (h.lasting G) told.0 told.1.0 told.1.1 L told.1.2
-          e.kept.independent.line_set spanned);
+          (last_goes_on S G q labels o v c.args.vector.now T N h.walk (h.lasting G) L told.0 told.1 spanned);
     }

@@ -1,4 +1,4 @@
-use Rattle.std.proofs.Common.{◌≡◌, ℕ, List, [], ◌∷◌, ◌++◌, map, sym, ap, ◌∙◌, subst}
+use Rattle.std.proofs.Common.{[], ◌∷◌, ◌++◌, map, ap, ◌∙◌, subst}
 use Rattle.echelon.specs.Inserted.{Inserts}
 use Rattle.exchanges.proofs.GrownByRows.{is_basis_of_set}
 use Rattle.field_core.specs.Matrix.{Matrix}
@@ -7,8 +7,6 @@ use Rattle.classes.proofs.starting.basis_with.Goals as goal
 use Rattle.linear_algebra.specs.Spans.{InSpan}
 use Rattle.linear_algebra.proofs.IndependenceLaws.{pushed_is_outside}
 use Rattle.parity_lines.proofs.Border.{vectors_at-vectors}
-use Rattle.parity_lines.proofs.NoRelation.{no_relation}
-use Rattle.parity_lines.specs.Independence.{TellsBasis}
 use Rattle.parity_lines.specs.Problems.{IsProblem, vectors_at}
 
 pub unreachable-requires : goal.unreachable-requires
