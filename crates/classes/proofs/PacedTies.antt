@@ -1,6 +1,7 @@
 -- Walks toward a target by steps from sets whose supports stay in their classes: what they keep, and that they do not
 -- settle too early.
-use Rattle.std.proofs.Common.{◌≡◌, ℕ, suc, List, [], ◌∷◌, append-nil, length, arith, refl, sym, ◌∙◌, subst, true, false, Option, None, Some, MatchOption}
+use Rattle.std.proofs.Common.{◌≡◌, ℕ, suc, List, [], ◌∷◌, append-nil, length, arith}
+use Rattle.std.proofs.Common.{refl, sym, ◌∙◌, subst, true, false, Option, None, Some, MatchOption}
 use Rattle.std.specs.Prelude.{slice_index}
 use Rattle.std.specs.Option.{is_some}
 use Rattle.std.proofs.lemmas.Bool.{false≢true}
@@ -24,6 +25,7 @@ use Rattle.classes.specs.Pacing.{KeepsCounts, TellsPace}
 use Rattle.classes.specs.declared.pacing.Paced.{Paced}
 use Rattle.classes.specs.declared.pacing.Paced.TheVariants.{Moved}
 use Rattle.classes.proofs.StepTies.{into_within, step_of_exchange}
+use Rattle.field_core.specs.Matrix.{Matrix}
 use Rattle.matching_state.specs.Missing.{Misses}
 use Rattle.matching_state.proofs.OneStep.{tuples_independent}
 use Rattle.matching_state.proofs.Ties.{misses_to, span_to}
@@ -49,12 +51,13 @@ pub misses_none : (S : Scalars) (p : ParityProblem) (M : List ℕ) → IsIndepen
 misses_none S p M i = subst (IsIndependent S p.dimension) (sym (append-nil (vectors_at p M))) i.independent
 
 -- what a step tells, and what it keeps, at the vectors that are held and at the variant
-pub pace_told : (S : Scalars) (p : ParityProblem) (labels : List ℕ) (held keep : List (List ℕ)) (T M N : List ℕ) (told variant : Paced) →
-    held ≡ keep → told ≡ variant → TellsPace S p labels held T M N told → StillMisses S p held M N →
+pub pace_told : {width : ℕ} (S : Scalars) (p : ParityProblem) (labels : List ℕ) (held : Matrix) (keep : List (List ℕ)) (T M N : List ℕ)
+    (told variant : Paced) → held ≡ record { width = width; rows = keep } → told ≡ variant →
+    TellsPace S p labels held.rows T M N told → StillMisses S p held.rows M N →
     TellsPace S p labels keep T M N variant × StillMisses S p keep M N
 pace_told S p labels held keep T M N told variant e is t k = (
-  subst (TellsPace S p labels keep T M N) is (subst (λ vs. TellsPace S p labels vs T M N told) e t),
-  subst (λ vs. StillMisses S p vs M N) e k,
+  subst (TellsPace S p labels keep T M N) is (subst (λ (m : Matrix). TellsPace S p labels m.rows T M N told) e t),
+  subst (λ (m : Matrix). StillMisses S p m.rows M N) e k,
 )
 
 -- what the coefficients that are found tell of the span
@@ -69,7 +72,8 @@ found_outside S d vs x None e t = t
 found_outside S d vs x (Some cs) e t = absurd (false≢true (sym e))
 
 -- what holds at each set M of a walk toward T, at the problem of its state: M misses keep, and o is as long as vectors
-pub record IsWalk {A : Type 0} (S : Scalars) (p : ParityProblem) (labels : List ℕ) (keep : List (List ℕ)) (o : List A) (T M : List ℕ) : Type 0 where
+pub record IsWalk {A : Type 0} (S : Scalars) (p : ParityProblem) (labels : List ℕ) (keep : List (List ℕ))
+    (o : List A) (T M : List ℕ) : Type 0 where
   pub problem : IsProblem S p
   pub labelled : length labels ≡ length p.lines
   pub long : length o ≡ p.dimension
@@ -106,8 +110,8 @@ module _ {A : Type 0} (S : Scalars) (F : IsField S) (p : ParityProblem) (labels 
     }
 
     pub walk_comes_nearer : suc (left_over N T) ≡ left_over M T
-    walk_comes_nearer = nearer_by_exchange S F p W.problem keep T W.target.independent.line_set.within M N m.1.0 m.1.1 W.set m.1.2.can m.1.2.swap
-        W.target.independent.line_set.increasing k.independent.line_set.increasing
+    walk_comes_nearer = nearer_by_exchange S F p W.problem keep T W.target.independent.line_set.within M N m.1.0 m.1.1 W.set m.1.2.can
+        m.1.2.swap W.target.independent.line_set.increasing k.independent.line_set.increasing
 
     pub walk_goes_on : IsWalk S p labels keep o T N
     walk_goes_on = record {

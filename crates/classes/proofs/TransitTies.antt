@@ -1,5 +1,6 @@
 -- What a set comes to that has settled toward one that misses two vectors together.
-use Rattle.std.proofs.Common.{◌≡◌, ℕ, inl, inr, List, [], ◌∷◌, ◌++◌, append_assoc, length, sym, ap, ◌∙◌, subst, Option, None, Some, MatchOption}
+use Rattle.std.proofs.Common.{◌≡◌, ℕ, inl, inr, List, [], ◌∷◌, ◌++◌, append_assoc}
+use Rattle.std.proofs.Common.{length, sym, ap, ◌∙◌, subst, Option, None, Some, MatchOption}
 use Rattle.std.proofs.lemmas.List.Elements.{All-nil, All-cons, All-append}
 use Rattle.linear_algebra.specs.Scalars.{Scalars, IsField}
 use Rattle.linear_algebra.specs.Spans.{Combines, InSpan, IsIndependent}
@@ -22,7 +23,8 @@ with_q L q p = record { width = p.dimension; rows = vectors_at p L ++ q ∷ [] }
 
 module _ (S : Scalars) (F : IsField S) (p : ParityProblem) (P : IsProblem S p) where
   -- the vectors of a set and one more
-  pub set_and_one : (L : List ℕ) (q : List ℕ) → IsIndependentSet S p L → IsVector S p.dimension q → AreVectors S p.dimension (vectors_at p L ++ q ∷ [])
+  pub set_and_one : (L : List ℕ) (q : List ℕ) → IsIndependentSet S p L → IsVector S p.dimension q →
+      AreVectors S p.dimension (vectors_at p L ++ q ∷ [])
   set_and_one L q i v = All-append (IsVector S p.dimension) (vectors_at p L) (q ∷ []) (vectors_at-vectors S p P L i.line_set.within)
       (All-cons (IsVector S p.dimension) q [] v (All-nil (IsVector S p.dimension)))
 
@@ -63,14 +65,15 @@ module _ (S : Scalars) (F : IsField S) (p : ParityProblem) (P : IsProblem S p) w
       )
 
     -- which of the two it is, by the coefficients of a that a basis of both finds
-    pub shared_told : (keep : List (List ℕ)) (basis : Matrix) (moved : List ℕ) (after : ParityProblem) (found : Option (List ℕ)) →
-        keep ≡ q ∷ [] → after ≡ p → basis ≡ record { width = after.dimension; rows = vectors_at after L ++ q ∷ [] } → moved ≡ L →
-        IsReached S p keep N M L → IsSettled S p keep N L →
+    pub shared_told : {width : ℕ} (keep basis : Matrix) (moved : List ℕ) (after : ParityProblem) (found : Option (List ℕ)) →
+        keep ≡ record { width = width; rows = q ∷ [] } → after ≡ p →
+        basis ≡ record { width = after.dimension; rows = vectors_at after L ++ q ∷ [] } → moved ≡ L →
+        IsReached S p keep.rows N M L → IsSettled S p keep.rows N L →
         MatchOption found (¬ (InSpan S basis.width basis.rows a)) (λ cs. Combines S basis.width basis.rows cs a) →
         MatchOption found (TellsShared S p (length M) q N a (First moved)) (λ _. TellsShared S p (length M) q N a (Second moved))
     shared_told keep basis moved after None e h b d r s k = subst (λ X. TellsShared S p (length M) q N a (First X)) (sym d)
-        (shared_first (subst (λ vs. IsReached S p vs N M L) e r) (subst (λ vs. IsSettled S p vs N L) e s)
+        (shared_first (subst (λ (x : Matrix). IsReached S p x.rows N M L) e r) (subst (λ (x : Matrix). IsSettled S p x.rows N L) e s)
         (subst (λ (x : Matrix). ¬ (InSpan S x.width x.rows a)) (b ∙ ap (with_q L q) h) k))
     shared_told keep basis moved after (Some cs) e h b d r s k = subst (λ X. TellsShared S p (length M) q N a (Second X)) (sym d)
-        (shared_second (subst (λ vs. IsReached S p vs N M L) e r) (subst (λ vs. IsSettled S p vs N L) e s)
+        (shared_second (subst (λ (x : Matrix). IsReached S p x.rows N M L) e r) (subst (λ (x : Matrix). IsSettled S p x.rows N L) e s)
         (record { coefficients = cs; combine = subst (λ (x : Matrix). Combines S x.width x.rows cs a) (b ∙ ap (with_q L q) h) k }))

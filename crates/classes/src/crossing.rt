@@ -47,7 +47,8 @@ pub fn missing_both<F: Field>(
     requires other { IsSetOf F.scalars problem.now (length set.now) other.now }
     requires u_long { length u.now ≡ problem.now.dimension }
     requires other_missed { Misses F.scalars problem.now other.now (map F.number u.now ∷ []) }
-    ensures { IfOk result (TellsCrossing F.scalars problem.now (length set.now) (map F.number o.now) (map F.number a.now) (map F.number u.now) (map F.number b.now)) }
+    ensures { IfOk result (TellsCrossing F.scalars problem.now (length set.now)
+        (map F.number o.now) (map F.number a.now) (map F.number u.now) (map F.number b.now)) }
 {
     let _lines = problem.len();
     match transit(alloc, problem, set, o, apart, a)? {

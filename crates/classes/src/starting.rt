@@ -39,7 +39,8 @@ pub fn alone<F: Field>(alloc: Global, v: &[F]) -> Result<Rows<F>, AllocError>
 pub fn basis_with<F: Field>(state: &Matched<'_, F>, q: &[F]) -> Result<Echelon<F>, AllocError>
     requires long { length q.now ≡ state.now.problem.dimension }
     requires missed { Misses F.scalars state.now.problem state.now.set (map F.number q.now ∷ []) }
-    ensures { IfOk result (λ basis. basis ≡ record { width = state.now.problem.dimension; rows = vectors_at state.now.problem state.now.set ++ map F.number q.now ∷ [] }) }
+    ensures { IfOk result (λ basis.
+        basis ≡ record { width = state.now.problem.dimension; rows = vectors_at state.now.problem state.now.set ++ map F.number q.now ∷ [] }) }
 {
     let (problem, set) = (state.problem(), state.set());
     let _lines = problem.len();

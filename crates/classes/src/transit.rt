@@ -35,7 +35,8 @@ fn shared_by<F: Field>(
     requires missed { Misses F.scalars state.old.problem state.old.set (map F.number q.now ∷ []) }
     requires target { IsSetOf F.scalars state.old.problem (length state.old.set) target.now }
     requires first_long { length first.now ≡ state.old.problem.dimension }
-    ensures { IfOk result (TellsShared F.scalars state.old.problem (length state.old.set) (map F.number q.now) target.now (map F.number first.now)) }
+    ensures { IfOk result (TellsShared F.scalars state.old.problem (length state.old.set)
+        (map F.number q.now) target.now (map F.number first.now)) }
 {
     let (problem, _set) = (state.problem(), state.set());
     let _lines = problem.len();
@@ -69,7 +70,8 @@ pub fn transit<F: Field>(
     requires missed { Misses F.scalars problem.now set.now (map F.number q.now ∷ []) }
     requires target { IsSetOf F.scalars problem.now (length set.now) target.now }
     requires first_long { length first.now ≡ problem.now.dimension }
-    ensures { IfOk result (TellsShared F.scalars problem.now (length set.now) (map F.number q.now) target.now (map F.number first.now)) }
+    ensures { IfOk result (TellsShared F.scalars problem.now (length set.now)
+        (map F.number q.now) target.now (map F.number first.now)) }
 {
     let mut state = started(alloc, problem, set)?;
     shared_by(&mut state, q, target, first)

@@ -27,7 +27,8 @@ returns g c =
     let o = map number c.args.o.now in
     let b = map number c.args.b.now in
     let in_b = vector_of_values S number g.met.F.Field.is_scalar c.args.b.now p.dimension c.requires.b_long in
-    let first = subst (TellsShared S p (length c.args.set.now) o c.args.apart.now (map number c.args.a.now)) c.in-Second.is c.in_ok-larger.ensures in
+    let first = subst (TellsShared S p (length c.args.set.now) o c.args.apart.now (map number c.args.a.now))
+    c.in-Second.is c.in_ok-larger.ensures in
     let told = subst (TellsShared S p (length c.args.other.now) (map number c.args.u.now) c.in-Second.target o) c.in-Second-2.is
     c.in_ok-larger-in-Second.ensures in (
       record { independent = told.0.independent; size = told.0.size ∙ c.requires.other.size },

@@ -52,9 +52,10 @@ unreachable-requires g c =
     let h = c.loop-keep.invariant in
     let o = map g.F.Field.number c.args.o.now in
     let e = c.in_ok-step_in_parts.ensures in
-    let told = pace_told S q c.args.labels.now c.in_ok-keep.keep.rows (o ∷ []) T N c.step_in_parts.new.state.set c.in_ok-step_in_parts.field-0 Settled
-    (ap (λ (m : Matrix). m.rows) c.in_ok-keep.ensures) c.in-Settled.is e.pace e.kept in
-    last_does_not_settle S F q c.args.labels.now o (map g.F.Field.number c.args.vector.now) c.args.vector.now T N h.walk (h.lasting F) told.0.1
+    let told = pace_told S q c.args.labels.now c.in_ok-keep.keep (o ∷ []) T N c.step_in_parts.new.state.set c.in_ok-step_in_parts.field-0
+    Settled c.in_ok-keep.ensures c.in-Settled.is e.pace e.kept in
+    last_does_not_settle S F q c.args.labels.now o (map g.F.Field.number c.args.vector.now) c.args.vector.now T N h.walk
+    (h.lasting F) told.0.1
 
 pub returns-then-is_none-clause-walk : goal.returns-then-is_none-clause-walk
 returns-then-is_none-clause-walk g c =
@@ -69,8 +70,8 @@ returns-then-is_none-clause-walk g c =
     let o = map g.F.Field.number c.args.o.now in
     let v = map g.F.Field.number c.args.vector.now in
     let e = c.in_ok-step_in_parts.ensures in
-    let told = pace_told S q c.args.labels.now c.in_ok-keep.keep.rows (o ∷ []) T N L c.in_ok-step_in_parts.field-0 Moved
-    (ap (λ (m : Matrix). m.rows) c.in_ok-keep.ensures) c.in-Moved.is e.pace e.kept in
+    let told = pace_told S q c.args.labels.now c.in_ok-keep.keep (o ∷ []) T N L c.in_ok-step_in_parts.field-0 Moved
+    c.in_ok-keep.ensures c.in-Moved.is e.pace e.kept in
     subst (λ p. Misses S p L (o ∷ v ∷ [])) h.problem
     (last_ends S F q c.args.labels.now o v c.args.vector.now T N h.walk (h.lasting F) L told.0 told.1
     (subst (λ (p : ParityProblem). ¬ (InSpan S p.dimension (vectors_at p L) v)) e.problem
@@ -86,8 +87,8 @@ loop-keep-smaller g c =
     let labels = c.args.labels.now in
     let o = map g.F.Field.number c.args.o.now in
     let e = c.in_ok-step_in_parts.ensures in
-    let told = pace_told S q labels c.in_ok-keep.keep.rows (o ∷ []) T N L c.in_ok-step_in_parts.field-0 Moved
-    (ap (λ (m : Matrix). m.rows) c.in_ok-keep.ensures) c.in-Moved.is e.pace e.kept in
+    let told = pace_told S q labels c.in_ok-keep.keep (o ∷ []) T N L c.in_ok-step_in_parts.field-0 Moved
+    c.in_ok-keep.ensures c.in-Moved.is e.pace e.kept in
     let nearer : suc (left_over L T) ≡ left_over N T = walk_comes_nearer S g.met.F.Field.lawful q labels (o ∷ []) c.args.vector.now T N
     c.loop-keep.invariant.walk L told.0 told.1 in
     omega arith
@@ -105,7 +106,8 @@ loop-keep-preserved g c =
     let o = map g.F.Field.number c.args.o.now in
     let v = map g.F.Field.number c.args.vector.now in
     let e = c.in_ok-step_in_parts.ensures in
-    let told = pace_told S q labels c.in_ok-keep.keep.rows (o ∷ []) T N L c.in_ok-step_in_parts.field-0 Moved (ap (λ (m : Matrix). m.rows) c.in_ok-keep.ensures) c.in-Moved.is e.pace e.kept in
+    let told = pace_told S q labels c.in_ok-keep.keep (o ∷ []) T N L c.in_ok-step_in_parts.field-0 Moved c.in_ok-keep.ensures
+    c.in-Moved.is e.pace e.kept in
     let spanned = subst (λ (p : ParityProblem). InSpan S p.dimension (vectors_at p L) v) e.problem
     (found_inside S r.dimension (vectors_at r L) v c.in_ok-coordinates.field-0 c.if-is_none.ensures c.in_ok-coordinates.ensures) in
     record {

@@ -1,8 +1,8 @@
-use Rattle.std.proofs.Common.{◌≡◌, suc, [], ◌∷◌, map, sym, ap, ◌∙◌, subst, arith}
+use Rattle.std.proofs.Common.{◌≡◌, suc, [], ◌∷◌, map, sym, ◌∙◌, subst, arith}
 use Rattle.classes.specs.declared.pacing.Paced.TheVariants.{Moved, Settled}
-use Rattle.classes.proofs.PacedTies.{IsWalk, counts_kept, found_inside, found_outside, keeps_counts_trans, pace_told, reach_never_settles, walk_comes_nearer, walk_goes_on}
+use Rattle.classes.proofs.PacedTies.{IsWalk, counts_kept, found_inside, found_outside}
+use Rattle.classes.proofs.PacedTies.{keeps_counts_trans, pace_told, reach_never_settles, walk_comes_nearer, walk_goes_on}
 use Rattle.classes.proofs.pacing.reach.Goals as goal
-use Rattle.field_core.specs.Matrix.{Matrix}
 use Rattle.field_core.proofs.Values.{vector_of_values}
 use Rattle.linear_algebra.proofs.IndependenceLaws.{independent_push}
 use Rattle.matching_state.specs.Missing.{Misses}
@@ -31,10 +31,10 @@ loop-keep-smaller g c =
     let T = c.args.target.now in
     let labels = c.args.labels.now in
     let e = c.in_ok-step_in_parts.ensures in
-    let told = pace_told S q labels c.new-keep.result.rows [] T N L c.in_ok-step_in_parts.field-0 Moved (ap (λ (m : Matrix). m.rows) c.new-keep.ensures)
+    let told = pace_told S q labels c.new-keep.result [] T N L c.in_ok-step_in_parts.field-0 Moved c.new-keep.ensures
     c.in-Moved.is e.pace e.kept in
-    let nearer : suc (left_over L T) ≡ left_over N T = walk_comes_nearer S g.met.F.Field.lawful q labels [] c.args.o.now T N c.loop-keep.invariant.walk
-    L told.0 told.1 in
+    let nearer : suc (left_over L T) ≡ left_over N T = walk_comes_nearer S g.met.F.Field.lawful q labels [] c.args.o.now T N
+    c.loop-keep.invariant.walk L told.0 told.1 in
     omega arith
 
 pub loop-keep-preserved : goal.loop-keep-preserved
@@ -49,7 +49,8 @@ loop-keep-preserved g c =
     let o = c.args.o.now in
     let e = c.in_ok-step_in_parts.ensures in
     let h = c.loop-keep.invariant in
-    let told = pace_told S q labels c.new-keep.result.rows [] T N L c.in_ok-step_in_parts.field-0 Moved (ap (λ (m : Matrix). m.rows) c.new-keep.ensures) c.in-Moved.is e.pace e.kept in
+    let told = pace_told S q labels c.new-keep.result [] T N L c.in_ok-step_in_parts.field-0 Moved c.new-keep.ensures
+    c.in-Moved.is e.pace e.kept in
     record {
       problem = e.problem ∙ h.problem;
       counts = keeps_counts_trans labels c.args.state.now.set N L h.counts
@@ -67,8 +68,8 @@ unreachable-requires g c =
     let h = c.loop-keep.invariant in
     let o = map g.F.Field.number c.args.o.now in
     let e = c.in_ok-step_in_parts.ensures in
-    let told = pace_told S q c.args.labels.now c.new-keep.result.rows [] T N c.step_in_parts.new.state.set c.in_ok-step_in_parts.field-0 Settled
-    (ap (λ (m : Matrix). m.rows) c.new-keep.ensures) c.in-Settled.is e.pace e.kept in
+    let told = pace_told S q c.args.labels.now c.new-keep.result [] T N c.step_in_parts.new.state.set c.in_ok-step_in_parts.field-0 Settled
+    c.new-keep.ensures c.in-Settled.is e.pace e.kept in
     reach_never_settles S g.met.F.Field.lawful q c.args.labels.now c.args.o.now T N h.walk o
     (vector_of_values S g.F.Field.number g.met.F.Field.is_scalar c.args.o.now q.dimension h.walk.long)
     (subst (λ r. Misses S r T (o ∷ [])) (sym h.problem) c.requires.missed)

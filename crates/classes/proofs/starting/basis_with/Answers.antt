@@ -28,7 +28,7 @@ pub returns : goal.returns
 returns g c =
     let S = g.F.Field.scalars in
     let q = map g.F.Field.number c.args.q.now in
-    let before = is_basis_of_set S c.args.state.now.problem c.problem-problem.result.now c.args.state.now.set c.set-set.result.now c.in_ok-basis.field-0
-    c.in-Basis.basis c.problem-problem.ensures c.set-set.ensures.value c.in_ok-basis.ensures c.in-Basis.is in
+    let before = is_basis_of_set S c.args.state.now.problem c.problem-problem.result.now c.args.state.now.set c.set-set.result.now
+    c.in_ok-basis.field-0 c.in-Basis.basis c.problem-problem.ensures c.set-set.ensures.value c.in_ok-basis.ensures c.in-Basis.is in
     (subst (Inserts S c.in-Basis.basis q c.insert.new.self) c.in-New.is c.in_ok-insert-in-Basis.ensures.ok).1
     ∙ ap (λ (m : Matrix). record { width = m.width; rows = m.rows ++ q ∷ [] }) before

@@ -1,4 +1,4 @@
-use Rattle.std.proofs.Common.{ℕ, List, Option, MatchOption, length, map, sym, ap, ◌∙◌, subst}
+use Rattle.std.proofs.Common.{ℕ, List, Option, MatchOption, length, map, sym, ◌∙◌, subst}
 use Rattle.classes.specs.Sharing.{TellsShared}
 use Rattle.classes.specs.declared.transit.Shared.{Shared}
 use Rattle.classes.specs.declared.transit.Shared.TheVariants.{First, Second}
@@ -6,7 +6,6 @@ use Rattle.classes.proofs.TransitTies.{shared_told}
 use Rattle.classes.proofs.transit.shared_by.Goals as goal
 use Rattle.classes.proofs.transit.shared_by.Goals.{in-None, in-Some}
 use Rattle.exchanges.specs.Steps.{TellsMoved}
-use Rattle.field_core.specs.Matrix.{Matrix}
 use Rattle.field_core.proofs.Values.{vector_of_values}
 use Rattle.parity_lines.specs.Problems.{IsProblem}
 
@@ -24,9 +23,10 @@ returns g c =
     let moved = c.in_ok-moved-in-Settled.moved in
     let Tells : Shared → Type 0 = TellsShared S p (length M) q N a in
     let told = shared_told S g.met.F.Field.lawful p (subst (IsProblem S) c.problem-problem.ensures c.len-lines.ensures.problem) M N L q a
-    c.set-set.ensures.independent c.requires.target (vector c.args.q.now p.dimension c.requires.long) (vector c.args.first.now p.dimension c.requires.first_long)
-    c.requires.missed c.in_ok-keep.keep.rows c.in_ok-basis-in-Settled.basis moved c.move_toward.new.state.problem c.in_ok-found-in-Settled.found
-    (ap (λ (m : Matrix). m.rows) c.in_ok-keep.ensures) e.problem c.in_ok-basis-in-Settled.ensures (c.in_ok-moved-in-Settled.ensures ∙ c.set.ensures.value)
+    c.set-set.ensures.independent c.requires.target (vector c.args.q.now p.dimension c.requires.long)
+    (vector c.args.first.now p.dimension c.requires.first_long)
+    c.requires.missed c.in_ok-keep.keep c.in_ok-basis-in-Settled.basis moved c.move_toward.new.state.problem c.in_ok-found-in-Settled.found
+    c.in_ok-keep.ensures e.problem c.in_ok-basis-in-Settled.ensures (c.in_ok-moved-in-Settled.ensures ∙ c.set.ensures.value)
     e.reached (subst (TellsMoved S p c.in_ok-keep.keep.rows N L) c.in-Settled.is e.moved) c.in_ok-found-in-Settled.ensures in
     let Told : Option (List ℕ) → Type 0 = λ found. MatchOption found (Tells (First moved)) (λ _. Tells (Second moved)) in
     elim c.match-found.branch [
