@@ -13,7 +13,8 @@ use Rattle.parity_theory.proofs.Widths.{misses_turned}
 
 module _ (S : Scalars) (F : IsField S) (p : ParityProblem) (P : IsProblem S p) where
   pair : (a b : List ℕ) → IsVector S p.dimension a → IsVector S p.dimension b → AreVectors S p.dimension (a ∷ b ∷ [])
-  pair a b v w = All-cons (IsVector S p.dimension) a (b ∷ []) v (All-cons (IsVector S p.dimension) b [] w (All-nil (IsVector S p.dimension)))
+  pair a b v w =
+      All-cons (IsVector S p.dimension) a (b ∷ []) v (All-cons (IsVector S p.dimension) b [] w (All-nil (IsVector S p.dimension)))
 
   pub missed_turned : (L a b : List ℕ) → IsIndependentSet S p L → IsVector S p.dimension a → IsVector S p.dimension b →
       Misses S p L (a ∷ b ∷ []) → Misses S p L (b ∷ a ∷ [])

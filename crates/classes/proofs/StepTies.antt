@@ -1,5 +1,5 @@
 -- Exchanges and overlaps of a problem, as steps and overlaps in the space of tuples.
-use Rattle.std.proofs.Common.{◌≡◌, ℕ, ◌<◌, List, [], ◌∷◌, ◌++◌, length, sym, subst, All}
+use Rattle.std.proofs.Common.{ℕ, ◌<◌, List, [], ◌∷◌, ◌++◌, length, subst, All}
 use Rattle.std.proofs.lemmas.List.Elements.{All-cons}
 use Rattle.vector_spaces.proofs.Bases.{HasRankOver}
 use Rattle.vector_spaces.proofs.Members.{In-all, In-contains, contains-In}

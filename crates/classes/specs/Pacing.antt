@@ -1,5 +1,5 @@
 -- Steps and walks toward a target from sets whose supports stay in their classes.
-use Rattle.std.specs.Prelude.{◌≡◌, ℕ, suc, List, [], ◌∷◌, length, slice_index, map}
+use Rattle.std.specs.Prelude.{◌≡◌, ℕ, suc, List, length, slice_index}
 use Rattle.class_theory.proofs.Classes.{count_in, of_label}
 use Rattle.linear_algebra.specs.Scalars.{Scalars}
 use Rattle.exchanges.specs.Exchanges.{IsExchangeToward, IsSettled}
@@ -9,7 +9,6 @@ use Rattle.classes.specs.declared.pacing.Paced.{Paced}
 use Rattle.classes.specs.declared.pacing.Paced.TheVariants as paced
 use Rattle.classes.specs.declared.pacing.Walked.{Walked}
 use Rattle.classes.specs.declared.pacing.Walked.TheVariants as walked
-use Rattle.matching_state.specs.Missing.{Misses}
 use Rattle.parity_lines.specs.Problems.{ParityProblem}
 
 -- how many lines of M have the label c

@@ -1,5 +1,5 @@
 -- How a set that misses a vector shares out what another set misses together.
-use Rattle.std.specs.Prelude.{◌≡◌, ℕ, suc, List, [], ◌∷◌, length}
+use Rattle.std.specs.Prelude.{ℕ, suc, List, [], ◌∷◌}
 use Rattle.linear_algebra.specs.Scalars.{Scalars}
 use Rattle.linear_algebra.specs.Vectors.{IsVector}
 use Rattle.matching_state.specs.Missing.{Misses}

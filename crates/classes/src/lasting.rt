@@ -27,7 +27,8 @@ pub fn last_exchanges<F: Field>(
     requires target { IsSetOf F.scalars state.old.problem (length state.old.set) target.now }
     requires long { length o.now ≡ state.old.problem.dimension }
     requires vector_long { length vector.now ≡ state.old.problem.dimension }
-    requires lasting { (L : IsField F.scalars) → IsLasting F.scalars L state.old.problem labels.now target.now (map F.number o.now) (map F.number vector.now) state.old.set }
+    requires lasting { (L : IsField F.scalars) → IsLasting F.scalars L state.old.problem labels.now target.now
+        (map F.number o.now) (map F.number vector.now) state.old.set }
     ensures problem { state.new.problem ≡ state.old.problem }
     ensures as_long { length state.new.set ≡ length state.old.set }
     ensures walk { IfOk result (TellsWalk F.scalars state.old.problem labels.now (length state.old.set) state.new.set
