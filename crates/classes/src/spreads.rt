@@ -162,7 +162,7 @@ fn spread_with<F: Field>(
 
 /// What the set, which misses the vector `o` of the lines, is to the lines, whose rank is above twice the number of the
 /// set's lines with this label by two.
-pub fn spread<F: Field>(
+pub fn spread_of<F: Field>(
     state: &Matched<'_, F>,
     labels: &[usize],
     lines: &LineSet,
