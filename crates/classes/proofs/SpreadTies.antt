@@ -1,8 +1,8 @@
 -- What a vector shows of a set that misses another one, by its coordinates over both.
-use Rattle.std.proofs.Common.{◌≡◌, ◌≢◌, ℕ, suc, ◌+◌, ◌*◌, ◌<◌, ◌≤◌, Bool, true, List, [], ◌∷◌, ◌++◌, length, take, drop, drop-cons, refl, sym, ap, ap₂, ◌∙◌, subst, arith, All}
+use Rattle.std.proofs.Common.{◌≡◌, ◌≢◌, ℕ, suc, ◌+◌, ◌*◌, ◌<◌, ◌≤◌, Bool, true, List, [], ◌∷◌, ◌++◌, ◌-◌, get_or, length, map, take, drop, drop-cons, refl, sym, ap, ap₂, ◌∙◌, subst, arith, All}
 use Rattle.std.specs.List.{Contains, filter}
 use Rattle.std.specs.Prelude.{slice_index}
-use Rattle.std.proofs.lemmas.List.{drop_all, length-append, length-take-le, take-append-drop}
+use Rattle.std.proofs.lemmas.List.{drop_all, get_or-map, length-append, length-map, length-take-le, take-append-drop, take-map}
 use Rattle.std.proofs.lemmas.List.Elements.{All-nil, All-cons, All-get_or, All-take}
 use Rattle.vector_spaces.proofs.Bases.{HasRankOver}
 use Rattle.vector_spaces.proofs.Independence.{counting_bound, independent_left}
@@ -40,6 +40,33 @@ use Rattle.parity_theory.proofs.Positions.{length-missing, vectors_first, vector
 use Rattle.parity_theory.proofs.Supports.{gathered_filter, support_in_of}
 use Rattle.parity_theory.proofs.Widths.{wide_from_span}
 
+-- the coordinates at the lines of M, and the one after them
+abbrev pub coordinates_at : List ℕ → List ℕ → List ℕ
+coordinates_at M cs = take (2 * length M) cs
+
+abbrev pub last_coordinate : List ℕ → List ℕ → ℕ
+last_coordinate M cs = slice_index cs (2 * length M)
+
+pub coordinates_long : (S : Scalars) (p : ParityProblem) (M o v cs : List ℕ) → Combines S p.dimension (vectors_at p M ++ o ∷ []) cs v →
+    length cs ≡ 2 * length M + 1
+coordinates_long S p M o v cs t =
+    let a = t.one_each.length_is in let b = length-append (vectors_at p M) (o ∷ []) in let e = length-vectors_at p M in omega arith
+
+-- which are all but the last, and the last
+module _ {X : Type 0} (f : X → ℕ) (xs : List X) (M cs : List ℕ) (l : length cs ≡ 2 * length M + 1) (e : map f xs ≡ cs) where
+  last_index : length xs - 1 ≡ 2 * length M
+  last_index = let a = length-map xs f in let b = ap length e in omega arith
+
+  pub all_but_last : map f (take (length xs - 1) xs) ≡ coordinates_at M cs
+  all_but_last = sym (take-map f (length xs - 1) xs) ∙ ap₂ take last_index e
+
+  pub long_but_last : length (take (length xs - 1) xs) ≡ 2 * length M
+  long_but_last = length-take-le (length xs - 1) xs (omega arith) ∙ last_index
+
+  pub last_is : (x : X) → x ≡ get_or xs (length xs - 1) x → f x ≡ last_coordinate M cs
+  last_is x h = ap f h ∙ sym (get_or-map f xs (length xs - 1) x 0 (let a = length-map xs f in let b = ap length e in omega arith))
+      ∙ ap₂ (λ (ys : List ℕ) n. get_or ys n 0) e last_index
+
 module _ (S : Scalars) (F : IsField S) (p : ParityProblem) (P : IsProblem S p) (M : List ℕ) (i : IsIndependentSet S p M) (labels : List ℕ) (c : ℕ)
     (o : List ℕ) (k : IsVector S p.dimension o) (missed : Misses S p M (o ∷ [])) (v : List ℕ) (l : IsVector S p.dimension v) where
   abbrev sp : Space (scalar_field S F) (Tuple (Element S) p.dimension)
@@ -69,15 +96,14 @@ module _ (S : Scalars) (F : IsField S) (p : ParityProblem) (P : IsProblem S p) (
       (missed_with S F p P M o v i k l missed n)) co cv
 
   module _ (cs : List ℕ) (t : Combines S p.dimension (vectors_at p M ++ o ∷ []) cs v) where
-    -- the coordinates at the lines of M, and the one at o
-    abbrev pub at_lines : List ℕ
-    at_lines = take (2 * length M) cs
+    abbrev at_lines : List ℕ
+    at_lines = coordinates_at M cs
 
-    abbrev pub at_last : ℕ
-    at_last = slice_index cs (2 * length M)
+    abbrev at_last : ℕ
+    at_last = last_coordinate M cs
 
     long : length cs ≡ 2 * length M + 1
-    long = let a = t.one_each.length_is in let b = length-append (vectors_at p M) (o ∷ []) in let e = length-vectors_at p M in omega arith
+    long = coordinates_long S p M o v cs t
 
     lines_vector : IsVector S (2 * length M) at_lines
     lines_vector = record {

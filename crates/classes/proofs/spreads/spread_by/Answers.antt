@@ -1,5 +1,5 @@
-use Rattle.std.proofs.Common.{◌≡◌, ◌+◌, ◌*◌, ◌<◌, [], ◌∷◌, ◌++◌, All, List, ℕ, MatchOption, length, length-map, map, take, ap, ap₂, sym, ◌∙◌, subst, arith}
-use Rattle.std.proofs.lemmas.List.{get_or-map, take-map}
+use Rattle.std.proofs.Common.{◌≡◌, ◌+◌, ◌*◌, ◌<◌, [], ◌∷◌, ◌++◌, All, List, ℕ, MatchOption, length, map, take, ap, ap₂, sym, ◌∙◌, subst, arith}
+use Rattle.std.proofs.lemmas.List.{get_or-map, length-map, take-map}
 use Rattle.field_core.proofs.Values.{vector_of_values}
 use Rattle.field_core.specs.Matrix.{Matrix}
 use Rattle.linear_algebra.specs.Spans.{Combines, InSpan}
@@ -24,3 +24,15 @@ returns-in_default g c L =
     (subst (λ (b : Matrix). ¬ (InSpan S b.width b.rows v)) c.requires.basis
     (subst (λ found. MatchOption found (¬ (InSpan S c.args.basis.now.width c.args.basis.now.rows v))
     (λ cs. Combines S c.args.basis.now.width c.args.basis.now.rows cs v)) c.in_default.is c.in_ok-coefficients.ensures))
+
+pub first_stray-requires-clause-long : goal.first_stray-requires-clause-long
+first_stray-requires-clause-long g c = ?
+
+pub part_of-requires-clause-long : goal.part_of-requires-clause-long
+part_of-requires-clause-long g c = ?
+
+pub returns-in_default-first_stray : goal.returns-in_default-first_stray
+returns-in_default-first_stray g c L = ?
+
+pub returns : goal.returns
+returns g c L H co cv = ?
