@@ -179,6 +179,6 @@ pub fn spread_of<F: Field>(
     ensures { IfOk result (λ found. (L : IsField F.scalars) →
         TellsSpread F.scalars L state.now.problem labels.now lines.now label (map F.number o.now) state.now.set found) }
 {
-    let basis = basis_with(state.alloc(), state.problem(), state.set(), o)?;
+    let basis = basis_with(state, o)?;
     spread_with(state, labels, lines, label, &basis, o)
 }
