@@ -87,7 +87,13 @@ fn part_of<F: Field>(
     for i in 0..set.len() {
         let line = set.at(i);
         if labels[line] == label {
-            add_line(&mut part, problem, line, coordinates[2 * i], coordinates[2 * i + 1]);
+            add_line(
+                &mut part,
+                problem,
+                line,
+                coordinates[2 * i],
+                coordinates[2 * i + 1],
+            );
         }
     }
     Ok(part)
@@ -120,7 +126,14 @@ fn spread_by<F: Field>(
     let Some(line) = first_stray(set, labels, label, &entries[..last]) else {
         return Ok(None);
     };
-    let part = part_of(state.alloc(), problem, set, labels, labels[line], &entries[..last])?;
+    let part = part_of(
+        state.alloc(),
+        problem,
+        set,
+        labels,
+        labels[line],
+        &entries[..last],
+    )?;
     let mut vector = Row::copy_of(state.alloc(), v)?;
     vector.add_multiple(entries[last].neg(), o);
     Ok(Some(Spread::Stray { line, vector, part }))
