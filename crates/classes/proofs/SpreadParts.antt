@@ -1,24 +1,40 @@
 -- The part of a vector at the lines with a label, as it is summed line by line.
-use Rattle.std.proofs.Common.{◌≡◌, ◌≢◌, ℕ, suc, ◌+◌, ◌*◌, ◌<◌, ◌≤◌, Bool, true, false, cond, List, [], ◌∷◌, length, drop, drop-cons, refl, sym, ap, ap₂, ◌∙◌, subst, arith, All}
-use Rattle.std.specs.Prelude.{slice_index}
-use Rattle.std.proofs.lemmas.Bool.{eq-eqb, ne_eqb}
-use Rattle.std.proofs.lemmas.List.{drop_all}
+use Rattle.std.proofs.Common.{◌≡◌, ◌≢◌, ℕ, suc, ◌+◌, ◌*◌, ◌<◌, ◌≤◌, Bool, true, false, cond, List, [], ◌∷◌, length, drop, drop-cons, sym, ap, ap₂, ◌∙◌, subst, arith, All, ◌-◌, get_or, map, take}
+use Rattle.std.specs.Prelude.{◌↔◌, slice_index}
+use Rattle.std.proofs.lemmas.Bool.{eq-eqb, false≢true, ne_eqb}
+use Rattle.std.proofs.lemmas.List.{drop_all, get_or-map, length-map}
 use Rattle.std.proofs.lemmas.List.Elements.{All-get_or}
 use Rattle.vector_spaces.proofs.Space.{Field, Space, linear}
 use Rattle.vector_spaces.proofs.Tuples.{Tuple}
 use Rattle.class_theory.proofs.Classes.{of_label}
 use Rattle.class_theory.proofs.Components.{component, restrict}
+use Rattle.field_core.proofs.Loops.{length-vector_sum}
 use Rattle.linear_algebra.specs.Scalars.{Scalars, IsScalar, IsField}
 use Rattle.linear_algebra.specs.Vectors.{IsVector, zero_vector, vector_sum, multiple}
 use Rattle.linear_algebra.proofs.Coordinates.{tuple, space}
 use Rattle.linear_algebra.proofs.Elements.{Element, scalar_field}
 use Rattle.linear_algebra.proofs.VectorLaws.{tuple-sum, tuple-multiple, tuple-zero, multiple-vector, vector_sum-vector, zero-vector}
 use Rattle.classes.specs.Spreads.{IsPart}
+use Rattle.matching_state.proofs.FoundSupports.{IsZeroAt, zero_window}
 use Rattle.matching_state.proofs.Ties.{pairs, pair_at}
 use Rattle.parity_lines.proofs.Border.{tuples_at}
 use Rattle.parity_lines.proofs.LinePairs.{line_at_vectors}
 use Rattle.parity_lines.specs.Problems.{ParityProblem, IsProblem, line_at}
 use Rattle.parity_theory.proofs.Coordinates.{line_combination-cons, line_combination-none}
+
+-- the number of an element is that of the list's entry
+pub entry_is : {X : Type 0} (f : X → ℕ) (xs : List X) (k : ℕ) (x : X) → x ≡ get_or xs k x → k < length xs → f x ≡ slice_index (map f xs) k
+entry_is f xs k x e h = ap f e ∙ sym (get_or-map f xs k x 0 h)
+
+-- what the test of the two entries of an index tells
+pub zero_told : (S : Scalars) {X : Type 0} (f : X → ℕ) (xs : List X) (i : ℕ) (told : Bool) → 2 * i + 1 < length xs →
+    (told ≡ true) ↔ (map f (take (2 * i + 2 - 2 * i) (drop (2 * i) xs)) ≡ zero_vector S (length (take (2 * i + 2 - 2 * i) (drop (2 * i) xs)))) →
+    (told ≡ true → IsZeroAt S (map f xs) i) × (told ≡ false → ¬ (IsZeroAt S (map f xs) i))
+zero_told S f xs i told h d = let w = zero_window S f xs i h in (λ e. w.0 (d.0 e), λ e z. false≢true (sym e ∙ d.1 (w.1 z)))
+
+-- a row to which a multiple of a vector is added keeps its length
+pub length_with : (S : Scalars) (d k : ℕ) (row v next : List ℕ) → next ≡ vector_sum S row (multiple S k v) → length row ≡ d → length v ≡ d → length next ≡ d
+length_with S d k row v next e h l = ap length e ∙ length-vector_sum S row (multiple S k v) (h ∙ sym l ∙ sym (length-map v (S.product k))) ∙ h
 
 module _ {K V : Type 0} {f : Field K} (s : Space f V) (line : ℕ → V × V) (J : ℕ → Bool) where
   infixl 65 ◌⊕◌

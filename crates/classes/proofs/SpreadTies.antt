@@ -1,13 +1,13 @@
 -- What a vector shows of a set that misses another one, by its coordinates over both.
-use Rattle.std.proofs.Common.{◌≡◌, ◌≢◌, ℕ, suc, ◌+◌, ◌*◌, ◌<◌, ◌≤◌, Bool, true, List, [], ◌∷◌, ◌++◌, ◌-◌, get_or, length, map, take, drop, drop-cons, refl, sym, ap, ap₂, ◌∙◌, subst, arith, All}
+use Rattle.std.proofs.Common.{◌≡◌, ◌≢◌, ℕ, suc, ◌+◌, ◌*◌, ◌<◌, ◌≤◌, Bool, true, List, [], ◌∷◌, ◌++◌, ◌-◌, get_or, length, map, take, drop-cons, refl, sym, ap, ap₂, ◌∙◌, subst, arith, All}
 use Rattle.std.specs.List.{Contains, filter}
 use Rattle.std.specs.Prelude.{slice_index}
-use Rattle.std.proofs.lemmas.List.{drop_all, get_or-map, length-append, length-map, length-take-le, take-append-drop, take-map}
+use Rattle.std.proofs.lemmas.List.{drop_all, length-append, length-map, length-take-le, take-append-drop, take-map}
 use Rattle.std.proofs.lemmas.List.Elements.{All-nil, All-cons, All-get_or, All-take}
 use Rattle.vector_spaces.proofs.Bases.{HasRankOver}
 use Rattle.vector_spaces.proofs.Independence.{counting_bound, independent_left}
-use Rattle.vector_spaces.proofs.Members.{In, In-all, In-contains, contains-In}
-use Rattle.vector_spaces.proofs.Space.{Field, Space, linear}
+use Rattle.vector_spaces.proofs.Members.{In-all, In-contains, contains-In}
+use Rattle.vector_spaces.proofs.Space.{Space, linear}
 use Rattle.vector_spaces.proofs.Span.{InSpan as InSpan_of, span_member, span_plus, span_scale}
 use Rattle.vector_spaces.proofs.Tuples.{Tuple}
 use Rattle.vector_spaces.proofs.Within.{Within, head_in, left_in, right_in, within_cons, within_members, within_nil, within_trans}
@@ -27,6 +27,7 @@ use Rattle.linear_algebra.proofs.Transfer.{independent_from_tuples}
 use Rattle.linear_algebra.proofs.VectorLaws.{tuple-sum, tuple-multiple, tuple-zero, multiple-vector, vector_sum-vector, vector_sum-zero}
 use Rattle.classes.specs.Pacing.{class_count}
 use Rattle.classes.specs.Spreads.{IsClose, IsIn, IsPart, IsStrayVector, IsWideOn}
+use Rattle.classes.proofs.SpreadParts.{entry_is}
 use Rattle.classes.proofs.TransitTies.{missed_with}
 use Rattle.matching_state.specs.Missing.{Misses}
 use Rattle.matching_state.specs.Supports.{HasComponent}
@@ -64,8 +65,7 @@ module _ {X : Type 0} (f : X → ℕ) (xs : List X) (M cs : List ℕ) (l : lengt
   long_but_last = length-take-le (length xs - 1) xs (omega arith) ∙ last_index
 
   pub last_is : (x : X) → x ≡ get_or xs (length xs - 1) x → f x ≡ last_coordinate M cs
-  last_is x h = ap f h ∙ sym (get_or-map f xs (length xs - 1) x 0 (let a = length-map xs f in let b = ap length e in omega arith))
-      ∙ ap₂ (λ (ys : List ℕ) n. get_or ys n 0) e last_index
+  last_is x h = entry_is f xs (length xs - 1) x h (let a = length-map xs f in let b = ap length e in omega arith) ∙ ap₂ (λ (ys : List ℕ) n. get_or ys n 0) e last_index
 
 module _ (S : Scalars) (F : IsField S) (p : ParityProblem) (P : IsProblem S p) (M : List ℕ) (i : IsIndependentSet S p M) (labels : List ℕ) (c : ℕ)
     (o : List ℕ) (k : IsVector S p.dimension o) (missed : Misses S p M (o ∷ [])) (v : List ℕ) (l : IsVector S p.dimension v) where
@@ -141,8 +141,8 @@ module _ (S : Scalars) (F : IsField S) (p : ParityProblem) (P : IsProblem S p) (
         ∙ ap₂ (λ x y. x ⊕ y) (sym (combining S F p P M at_lines i.line_set.within lines_vector)) (tuple-multiple S F p.dimension at_last o last_in k)
 
     -- with no component at a line of another label it is close
-    pub close_by : ((m : ℕ) → HasComponent S M at_lines m → slice_index labels m ≡ c) → IsClose S F p labels c o M v
-    close_by h =
+    close : ((m : ℕ) → HasComponent S M at_lines m → slice_index labels m ≡ c) → IsClose S F p labels c o M v
+    close h =
         let J = of_label (slice_index labels) c in
         let inside = gathered_filter sp line J (pairs S F at_lines) M (support_in_of (scalar_field S F) (λ m. J m ≡ true) (pairs S F at_lines) M
         (λ m j. of_label_in (slice_index labels) c m (h m (component_of_support S F p P M at_lines m lines_vector j)))) in
@@ -151,6 +151,9 @@ module _ (S : Scalars) (F : IsField S) (p : ParityProblem) (P : IsProblem S p) (
         (left_in sp (vectors line (filter J M)) (as_tuple o ∷ []) combined inside)
         (right_in sp (vectors line (filter J M)) (as_tuple o ∷ []) (element S F at_last · as_tuple o)
         (span_scale _ sp (as_tuple o ∷ []) (element S F at_last) (as_tuple o) (head_in sp (as_tuple o) []))))
+
+    pub close_by : (N ds : List ℕ) → N ≡ M → ds ≡ coordinates_at M cs → ((m : ℕ) → HasComponent S N ds m → slice_index labels m ≡ c) → IsClose S F p labels c o M v
+    close_by N ds e q h = close (λ m k. h m (subst (λ L. HasComponent S L ds m) (sym e) (subst (λ xs. HasComponent S M xs m) (sym q) k)))
 
     module _ (j : ℕ) (at_j : HasComponent S M at_lines j) (n : ℕ) (hn : IsScalar S n) (zero : S.sum at_last n ≡ S.zero) (u w : List ℕ)
         (part : IsPart S F p labels (slice_index labels j) M at_lines u) (is : w ≡ vector_sum S v (multiple S n o)) where
@@ -177,8 +180,8 @@ module _ (S : Scalars) (F : IsField S) (p : ParityProblem) (P : IsProblem S p) (
           (component_in_support S F p P M at_lines j lines_vector at_j) (of_label_in (slice_index labels) (slice_index labels j) j refl)
           (sym part.is_component ∙ ap as_tuple e ∙ tuple-zero S F p.dimension)
 
-      pub stray_by : slice_index labels j ≢ c → (H : List ℕ) → IsIn S F p H o → IsIn S F p H v → IsStrayVector S F p labels H c o M j w u
-      stray_by apart H co cv = record {
+      stray : slice_index labels j ≢ c → (H : List ℕ) → IsIn S F p H o → IsIn S F p H v → IsStrayVector S F p labels H c o M j w u
+      stray apart H co cv = record {
         within = subst (λ m. m < length p.lines) at_j.line (All-get_or (λ m. m < length p.lines) M at_j.index 0 at_j.within i.line_set.within);
         apart = apart;
         in_lines = subst (λ x. InSpan_of sp (vectors line H) x) (sym w_tuple) (span_plus _ sp (vectors line H) (as_tuple v) (element S F n · as_tuple o) cv
@@ -204,6 +207,16 @@ module _ (S : Scalars) (F : IsField S) (p : ParityProblem) (P : IsProblem S p) (
             inside = subst (λ x. InSpan_of sp (vectors line (filter J M)) x) (sym part.is_component) (component_in sp line M J (pairs S F at_lines));
             others = component_in sp line M (others J) (pairs S F at_lines);
           }
+
+    -- with one there is a vector that strays
+    pub stray_by : (r : ParityProblem) (N ds : List ℕ) → r ≡ p → N ≡ M → ds ≡ coordinates_at M cs → (j : ℕ) → HasComponent S N ds j → slice_index labels j ≢ c →
+        (x n : ℕ) → x ≡ last_coordinate M cs → IsScalar S n → S.sum x n ≡ S.zero → (u w : List ℕ) → IsPart S F r labels (slice_index labels j) N ds u →
+        w ≡ vector_sum S v (multiple S n o) → (H : List ℕ) → IsIn S F p H o → IsIn S F p H v → IsStrayVector S F p labels H c o M j w u
+    stray_by r N ds er eN ed j at_j apart x n ex hn zero u w part is = stray j
+        (subst (λ L. HasComponent S L at_lines j) eN (subst (λ xs. HasComponent S N xs j) ed at_j)) n hn (subst (λ a. S.sum a n ≡ S.zero) ex zero) u w
+        (subst (λ (q : ParityProblem). IsPart S F q labels (slice_index labels j) M at_lines u) er
+        (subst (λ L. IsPart S F r labels (slice_index labels j) L at_lines u) eN (subst (λ xs. IsPart S F r labels (slice_index labels j) N xs u) ed part)))
+        is apart
 
 -- both vectors of the line m are close
 abbrev pub AreClose : (S : Scalars) (F : IsField S) (p : ParityProblem) → List ℕ → ℕ → List ℕ → List ℕ → ℕ → Type 0

@@ -10,7 +10,6 @@ use Rattle.linear_algebra.proofs.Coordinates.{tuple, space}
 use Rattle.classes.specs.Parted.{IsParted}
 use Rattle.classes.specs.declared.spreads.Spread.{Spread}
 use Rattle.classes.specs.declared.spreads.Spread.TheVariants.{Wide, Stray}
-use Rattle.matching_state.specs.Missing.{Misses}
 use Rattle.matching_state.proofs.Ties.{pairs}
 use Rattle.parity_lines.proofs.Border.{tuples_at}
 use Rattle.parity_lines.specs.Problems.{ParityProblem}

@@ -1,9 +1,8 @@
 use Rattle.std.proofs.Common.{◌≡◌, ◌≢◌, ◌+◌, ◌*◌, ◌<◌, List, ℕ, get_or, length, map, ap, sym, ◌∙◌, subst, arith}
-use Rattle.std.proofs.lemmas.List.{get_or-map}
 use Rattle.std.proofs.lemmas.List.Elements.{All-get_or}
 use Rattle.field_core.proofs.Values.{vector_of_values}
 use Rattle.linear_algebra.specs.Vectors.{zero_vector}
-use Rattle.classes.proofs.SpreadParts.{IsPartBelow, part_all, part_none, part_passed, part_taken}
+use Rattle.classes.proofs.SpreadParts.{IsPartBelow, entry_is, part_all, part_none, part_passed, part_taken}
 use Rattle.classes.proofs.spreads.part_of.Goals as goal
 use Rattle.classes.proofs.spreads.part_of.Goals.{then-labels-line, else-labels-line}
 
@@ -39,8 +38,8 @@ loop-i-preserved g c L =
     elim c.if-labels-line.branch as (λ _. IsPartBelow S L p labels label M cs (i + 1) c.if-labels-line.part) [
       | then-labels-line w ↦ part_taken S L p labels label M cs P c.requires.within v i (omega arith) c.loop-i.part (c.loop-i.invariant L)
           c.at-line.result (f w.index-coordinates-i.result) (f w.index-coordinates-i-then-labels-line.result) c.if-labels-line.part c.at-line.ensures
-          (ap f w.index-coordinates-i.is ∙ sym (get_or-map f xs (2 * i) w.index-coordinates-i.result 0 (omega arith)))
-          (ap f w.index-coordinates-i-then-labels-line.is ∙ sym (get_or-map f xs (2 * i + 1) w.index-coordinates-i-then-labels-line.result 0 (omega arith)))
+          (entry_is f xs (2 * i) w.index-coordinates-i.result w.index-coordinates-i.is (omega arith))
+          (entry_is f xs (2 * i + 1) w.index-coordinates-i-then-labels-line.result w.index-coordinates-i-then-labels-line.is (omega arith))
           (subst (λ m. get_or labels m 0 ≡ label) c.at-line.ensures w.if-labels-line.true) (w.part-is ∙ w.add_line.ensures)
       | else-labels-line w ↦ subst (IsPartBelow S L p labels label M cs (i + 1)) (sym w.part-is)
           (part_passed S L p labels label M cs P c.requires.within v i (omega arith) c.loop-i.part (c.loop-i.invariant L)

@@ -1,12 +1,10 @@
-use Rattle.std.proofs.Common.{◌≡◌, ◌≢◌, ◌-◌, [], ◌∷◌, ◌++◌, List, ℕ, MatchOption, get_or, length, map, take, ap, sym, ◌*◌, ◌∙◌, subst}
+use Rattle.std.proofs.Common.{◌≡◌, ◌-◌, [], ◌∷◌, ◌++◌, List, ℕ, MatchOption, length, map, take, ap, sym, ◌*◌, ◌∙◌, subst}
 use Rattle.field_core.proofs.Values.{vector_of_values}
 use Rattle.field_core.specs.Matrix.{Matrix}
 use Rattle.linear_algebra.specs.Spans.{Combines, InSpan}
 use Rattle.linear_algebra.specs.Vectors.{multiple, vector_sum}
-use Rattle.classes.specs.Spreads.{IsPart}
-use Rattle.classes.proofs.SpreadTies.{all_but_last, close_by, coordinates_at, coordinates_long, last_is, long_but_last, stray_by, wide_by}
-use Rattle.matching_state.specs.Supports.{HasComponent}
-use Rattle.parity_lines.specs.Problems.{IsProblem, ParityProblem, vectors_at}
+use Rattle.classes.proofs.SpreadTies.{all_but_last, close_by, coordinates_long, last_is, long_but_last, stray_by, wide_by}
+use Rattle.parity_lines.specs.Problems.{IsProblem, vectors_at}
 use Rattle.classes.proofs.spreads.spread_by.Given.{Over}
 use Rattle.classes.proofs.spreads.spread_by.Goals as goal
 use Rattle.classes.proofs.spreads.spread_by.Goals.{After-as_slice-entries}
@@ -70,9 +68,7 @@ returns-in_default-first_stray g c L =
     close_by S L p P M c.set-set.ensures.independent c.args.labels.now c.args.label o
     (vector_of_values S f g.met.F.Field.is_scalar c.args.o.now p.dimension c.requires.o_long) c.requires.missed v
     (vector_of_values S f g.met.F.Field.is_scalar c.args.v.now p.dimension c.requires.v_long) cs t
-    (λ m h. c.in_default-first_stray.ensures m
-    (subst (λ N. HasComponent S N (map f (take (length c.as_slice-entries.result.now - 1) c.as_slice-entries.result.now)) m) (sym c.set-set.ensures.value)
-    (subst (λ ds. HasComponent S M ds m) (sym q) h)))
+    c.set-set.result.now _ c.set-set.ensures.value q c.in_default-first_stray.ensures
 
 -- with one there is a vector that strays
 pub returns : goal.returns
@@ -86,21 +82,15 @@ returns g c L H co cv =
     let v : List ℕ = map f c.args.v.now in
     let cs = c.in-Some.coefficients in
     let xs = c.as_slice-entries.result.now in
-    let j = c.in-Some-first_stray.line in
-    let u = c.in_ok-part.part in
     let n = f c.neg.result in
     let t = told g (goal.at.returns g c).After-as_slice-entries in
     let P = subst (IsProblem S) c.problem-problem.ensures c.len-lines.ensures.problem in
     let long = coordinates_long S p M o v cs t in
-    let q = all_but_last f xs M cs long c.as_slice-entries.ensures.value in
-    let last = last_is f xs M cs long c.as_slice-entries.ensures.value c.index-entries-last.result c.index-entries-last.is in
-    let found = subst (λ N. HasComponent S N (coordinates_at M cs) j) c.set-set.ensures.value
-    (subst (λ ds. HasComponent S c.set-set.result.now ds j) q c.in-Some-first_stray.ensures.0) in
-    let part = subst (λ (r : ParityProblem). IsPart S L r labels (get_or labels j 0) M (coordinates_at M cs) u) c.problem-problem.ensures
-    (subst (λ N. IsPart S L c.problem-problem.result.now labels (get_or labels j 0) N (coordinates_at M cs) u) c.set-set.ensures.value
-    (subst (λ ds. IsPart S L c.problem-problem.result.now labels (get_or labels j 0) c.set-set.result.now ds u) q (c.in_ok-part.ensures L))) in
     stray_by S L p P M c.set-set.ensures.independent labels c.args.label o
     (vector_of_values S f g.met.F.Field.is_scalar c.args.o.now p.dimension c.requires.o_long) c.requires.missed v
-    (vector_of_values S f g.met.F.Field.is_scalar c.args.v.now p.dimension c.requires.v_long) cs t j found n (g.met.F.Field.is_scalar c.neg.result)
-    (subst (λ a. S.sum a n ≡ S.zero) last c.neg.ensures) u c.add_multiple.new.self part
-    (c.add_multiple.ensures ∙ ap (λ x. vector_sum S x (multiple S n o)) c.in_ok-vector.ensures) c.in-Some-first_stray.ensures.1 H co cv
+    (vector_of_values S f g.met.F.Field.is_scalar c.args.v.now p.dimension c.requires.v_long) cs t c.problem-problem.result.now c.set-set.result.now
+    (map f (take (length xs - 1) xs)) c.problem-problem.ensures c.set-set.ensures.value (all_but_last f xs M cs long c.as_slice-entries.ensures.value)
+    c.in-Some-first_stray.line c.in-Some-first_stray.ensures.0 c.in-Some-first_stray.ensures.1 (f c.index-entries-last.result) n
+    (last_is f xs M cs long c.as_slice-entries.ensures.value c.index-entries-last.result c.index-entries-last.is) (g.met.F.Field.is_scalar c.neg.result)
+    c.neg.ensures c.in_ok-part.part c.add_multiple.new.self (c.in_ok-part.ensures L)
+    (c.add_multiple.ensures ∙ ap (λ x. vector_sum S x (multiple S n o)) c.in_ok-vector.ensures) H co cv
