@@ -33,7 +33,8 @@ pub zero_told : (S : Scalars) {X : Type 0} (f : X → ℕ) (xs : List X) (i : �
 zero_told S f xs i told h d = let w = zero_window S f xs i h in (λ e. w.0 (d.0 e), λ e z. false≢true (sym e ∙ d.1 (w.1 z)))
 
 -- a row to which a multiple of a vector is added keeps its length
-pub length_with : (S : Scalars) (d k : ℕ) (row v next : List ℕ) → next ≡ vector_sum S row (multiple S k v) → length row ≡ d → length v ≡ d → length next ≡ d
+pub length_with : (S : Scalars) (d k : ℕ) (row v next : List ℕ) → next ≡ vector_sum S row (multiple S k v) → length row ≡ d → length v ≡ d →
+    length next ≡ d
 length_with S d k row v next e h l = ap length e ∙ length-vector_sum S row (multiple S k v) (h ∙ sym l ∙ sym (length-map v (S.product k))) ∙ h
 
 module _ {K V : Type 0} {f : Field K} (s : Space f V) (line : ℕ → V × V) (J : ℕ → Bool) where
@@ -50,7 +51,8 @@ module _ {K V : Type 0} {f : Field K} (s : Space f V) (line : ℕ → V × V) (J
   abbrev split : Bool → K × K → V × V → V → V
   split b c l rest = (cond b c (o, o)).0 · l.0 ⊕ (cond b c (o, o)).1 · l.1 ⊕ rest
 
-  component-cons : (c : K × K) (cs : List (K × K)) (m : ℕ) (M : List ℕ) → component s line J (m ∷ M) (c ∷ cs) ≡ split (J m) c (line m) (component s line J M cs)
+  component-cons : (c : K × K) (cs : List (K × K)) (m : ℕ) (M : List ℕ) →
+      component s line J (m ∷ M) (c ∷ cs) ≡ split (J m) c (line m) (component s line J M cs)
   unfolding restrict
   component-cons c cs m M = line_combination-cons s line (cond (J m) c (o, o)) (restrict f J M cs) m M
 
@@ -58,12 +60,14 @@ module _ {K V : Type 0} {f : Field K} (s : Space f V) (line : ℕ → V × V) (J
       component s line J (m ∷ M) (c ∷ cs) ≡ c.0 · (line m).0 ⊕ c.1 · (line m).1 ⊕ component s line J M cs
   component-taken c cs m M e = component-cons c cs m M ∙ ap (λ b. split b c (line m) (component s line J M cs)) e
 
-  component-passed : (c : K × K) (cs : List (K × K)) (m : ℕ) (M : List ℕ) → J m ≡ false → component s line J (m ∷ M) (c ∷ cs) ≡ component s line J M cs
+  component-passed : (c : K × K) (cs : List (K × K)) (m : ℕ) (M : List ℕ) → J m ≡ false →
+      component s line J (m ∷ M) (c ∷ cs) ≡ component s line J M cs
   component-passed c cs m M e = component-cons c cs m M ∙ ap (λ b. split b c (line m) (component s line J M cs)) e
       ∙ (let q : o · (line m).0 ⊕ o · (line m).1 ⊕ component s line J M cs ≡ component s line J M cs = simp linear in q)
 
 -- u and the part at the lines from the index i on are the whole part
-pub record IsPartBelow (S : Scalars) (F : IsField S) (p : ParityProblem) (labels : List ℕ) (c : ℕ) (M cs : List ℕ) (i : ℕ) (u : List ℕ) : Type 0 where
+pub record IsPartBelow (S : Scalars) (F : IsField S) (p : ParityProblem) (labels : List ℕ) (c : ℕ) (M cs : List ℕ) (i : ℕ)
+    (u : List ℕ) : Type 0 where
   pub is_vector : IsVector S p.dimension u
   pub with_rest : (space S F p.dimension).◌⊕◌ (tuple S F p.dimension u)
       (component (space S F p.dimension) (tuples_at S F p) (of_label (slice_index labels) c) (drop i M) (pairs S F (drop (2 * i) cs)))
@@ -130,14 +134,16 @@ module _ (S : Scalars) (F : IsField S) (p : ParityProblem) (labels : List ℕ) (
     pub part_passed : slice_index labels m ≢ c → IsPartBelow S F p labels c M cs (i + 1) u
     part_passed n = record {
       is_vector = b.is_vector;
-      with_rest = ap (λ t. as_tuple u ⊕ t) (sym (ahead ∙ component-passed sp line J (pair_at S F cs i) (pairs S F (drop (2 * (i + 1)) cs)) m (drop (i + 1) M)
+      with_rest = ap (λ t. as_tuple u ⊕ t)
+          (sym (ahead ∙ component-passed sp line J (pair_at S F cs i) (pairs S F (drop (2 * (i + 1)) cs)) m (drop (i + 1) M)
           (ne_eqb (slice_index labels m) c n))) ∙ b.with_rest;
     }
 
     abbrev with_line : ℕ → ℕ → ℕ → List ℕ
     with_line l x y = vector_sum S (vector_sum S u (multiple S x (line_at p l).0)) (multiple S y (line_at p l).1)
 
-    taken : slice_index labels m ≡ c → IsPartBelow S F p labels c M cs (i + 1) (with_line m (slice_index cs (2 * i)) (slice_index cs (2 * i + 1)))
+    taken : slice_index labels m ≡ c →
+        IsPartBelow S F p labels c M cs (i + 1) (with_line m (slice_index cs (2 * i)) (slice_index cs (2 * i + 1)))
     taken e = record {
       is_vector = vector_sum-vector S F p.dimension _ _ (vector_sum-vector S F p.dimension u _ b.is_vector first) second;
       with_rest = ap (λ t. t ⊕ rest (i + 1)) sum ∙ (let q : as_tuple u ⊕ a.0 · (line m).0 ⊕ a.1 · (line m).1 ⊕ rest (i + 1)
@@ -167,14 +173,17 @@ module _ (S : Scalars) (F : IsField S) (p : ParityProblem) (labels : List ℕ) (
         second : IsVector S p.dimension (multiple S (slice_index cs (2 * i + 1)) (line_at p m).1)
         second = multiple-vector S F p.dimension _ _ second_in own.1
 
-        sum : as_tuple (vector_sum S (vector_sum S u (multiple S (slice_index cs (2 * i)) (line_at p m).0)) (multiple S (slice_index cs (2 * i + 1)) (line_at p m).1))
+        sum : as_tuple (vector_sum S (vector_sum S u (multiple S (slice_index cs (2 * i)) (line_at p m).0))
+            (multiple S (slice_index cs (2 * i + 1)) (line_at p m).1))
             ≡ as_tuple u ⊕ a.0 · (line m).0 ⊕ a.1 · (line m).1
         sum = tuple-sum S F p.dimension _ _ (vector_sum-vector S F p.dimension u _ b.is_vector first) second
-            ∙ ap₂ (λ x y. x ⊕ y) (tuple-sum S F p.dimension u _ b.is_vector first ∙ ap (λ t. as_tuple u ⊕ t) (tuple-multiple S F p.dimension _ _ first_in own.0))
+            ∙ ap₂ (λ x y. x ⊕ y) (tuple-sum S F p.dimension u _ b.is_vector first
+            ∙ ap (λ t. as_tuple u ⊕ t) (tuple-multiple S F p.dimension _ _ first_in own.0))
             (tuple-multiple S F p.dimension _ _ second_in own.1)
 
     -- one with the label adds its vectors
-    pub part_taken : (l x y : ℕ) (after : List ℕ) → l ≡ m → x ≡ slice_index cs (2 * i) → y ≡ slice_index cs (2 * i + 1) → slice_index labels m ≡ c →
-        after ≡ vector_sum S (vector_sum S u (multiple S x (line_at p l).0)) (multiple S y (line_at p l).1) → IsPartBelow S F p labels c M cs (i + 1) after
+    pub part_taken : (l x y : ℕ) (after : List ℕ) → l ≡ m → x ≡ slice_index cs (2 * i) → y ≡ slice_index cs (2 * i + 1) →
+        slice_index labels m ≡ c → after ≡ vector_sum S (vector_sum S u (multiple S x (line_at p l).0)) (multiple S y (line_at p l).1) →
+        IsPartBelow S F p labels c M cs (i + 1) after
     part_taken l x y after el ex ey e q = subst (IsPartBelow S F p labels c M cs (i + 1))
         (sym (q ∙ ap (λ n. with_line n x y) el ∙ ap₂ (with_line m) ex ey)) (taken e)

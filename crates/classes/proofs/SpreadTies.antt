@@ -65,10 +65,11 @@ module _ {X : Type 0} (f : X → ℕ) (xs : List X) (M cs : List ℕ) (l : lengt
   long_but_last = length-take-le (length xs - 1) xs (omega arith) ∙ last_index
 
   pub last_is : (x : X) → x ≡ get_or xs (length xs - 1) x → f x ≡ last_coordinate M cs
-  last_is x h = entry_is f xs (length xs - 1) x h (let a = length-map xs f in let b = ap length e in omega arith) ∙ ap₂ (λ (ys : List ℕ) n. get_or ys n 0) e last_index
+  last_is x h = entry_is f xs (length xs - 1) x h (let a = length-map xs f in let b = ap length e in omega arith)
+      ∙ ap₂ (λ (ys : List ℕ) n. get_or ys n 0) e last_index
 
-module _ (S : Scalars) (F : IsField S) (p : ParityProblem) (P : IsProblem S p) (M : List ℕ) (i : IsIndependentSet S p M) (labels : List ℕ) (c : ℕ)
-    (o : List ℕ) (k : IsVector S p.dimension o) (missed : Misses S p M (o ∷ [])) (v : List ℕ) (l : IsVector S p.dimension v) where
+module _ (S : Scalars) (F : IsField S) (p : ParityProblem) (P : IsProblem S p) (M : List ℕ) (i : IsIndependentSet S p M)
+    (labels : List ℕ) (c : ℕ) (o : List ℕ) (k : IsVector S p.dimension o) (missed : Misses S p M (o ∷ [])) (v : List ℕ) (l : IsVector S p.dimension v) where
   abbrev sp : Space (scalar_field S F) (Tuple (Element S) p.dimension)
   sp = space S F p.dimension
 
@@ -132,13 +133,16 @@ module _ (S : Scalars) (F : IsField S) (p : ParityProblem) (P : IsProblem S p) (
     in_tuples =
         let own = vectors_at-vectors S p P M i.line_set.within in
         let by_lines = combination S p.dimension at_lines (vectors_at p M) in
-        let each : IsVector S (length (vectors_at p M)) at_lines = subst (λ n. IsVector S n at_lines) (sym (length-vectors_at p M)) lines_vector in
+        let each : IsVector S (length (vectors_at p M)) at_lines = subst (λ n. IsVector S n at_lines)
+        (sym (length-vectors_at p M)) lines_vector in
         ap as_tuple (sym t.gives ∙ ap (λ ds. combination S p.dimension ds (vectors_at p M ++ o ∷ [])) in_two
         ∙ combination-append S F p.dimension at_lines (at_last ∷ []) (vectors_at p M) (o ∷ []) each
         (All-cons (IsScalar S) at_last [] last_in (All-nil (IsScalar S))) own one ∙ ap (vector_sum S by_lines) by_last)
-        ∙ tuple-sum S F p.dimension by_lines (multiple S at_last o) (combination-vector S F p.dimension at_lines (vectors_at p M) lines_vector.entries own)
+        ∙ tuple-sum S F p.dimension by_lines (multiple S at_last o)
+        (combination-vector S F p.dimension at_lines (vectors_at p M) lines_vector.entries own)
         (multiple-vector S F p.dimension at_last o last_in k)
-        ∙ ap₂ (λ x y. x ⊕ y) (sym (combining S F p P M at_lines i.line_set.within lines_vector)) (tuple-multiple S F p.dimension at_last o last_in k)
+        ∙ ap₂ (λ x y. x ⊕ y) (sym (combining S F p P M at_lines i.line_set.within lines_vector))
+        (tuple-multiple S F p.dimension at_last o last_in k)
 
     -- with no component at a line of another label it is close
     close : ((m : ℕ) → HasComponent S M at_lines m → slice_index labels m ≡ c) → IsClose S F p labels c o M v
@@ -152,7 +156,8 @@ module _ (S : Scalars) (F : IsField S) (p : ParityProblem) (P : IsProblem S p) (
         (right_in sp (vectors line (filter J M)) (as_tuple o ∷ []) (element S F at_last · as_tuple o)
         (span_scale _ sp (as_tuple o ∷ []) (element S F at_last) (as_tuple o) (head_in sp (as_tuple o) []))))
 
-    pub close_by : (N ds : List ℕ) → N ≡ M → ds ≡ coordinates_at M cs → ((m : ℕ) → HasComponent S N ds m → slice_index labels m ≡ c) → IsClose S F p labels c o M v
+    pub close_by : (N ds : List ℕ) → N ≡ M → ds ≡ coordinates_at M cs → ((m : ℕ) → HasComponent S N ds m → slice_index labels m ≡ c) →
+        IsClose S F p labels c o M v
     close_by N ds e q h = close (λ m k. h m (subst (λ L. HasComponent S L ds m) (sym e) (subst (λ xs. HasComponent S M xs m) (sym q) k)))
 
     module _ (j : ℕ) (at_j : HasComponent S M at_lines j) (n : ℕ) (hn : IsScalar S n) (zero : S.sum at_last n ≡ S.zero) (u w : List ℕ)
@@ -165,13 +170,15 @@ module _ (S : Scalars) (F : IsField S) (p : ParityProblem) (P : IsProblem S p) (
 
       -- less its multiple of o, it is in the span of M
       w_tuple : as_tuple w ≡ as_tuple v ⊕ element S F n · as_tuple o
-      w_tuple = ap as_tuple is ∙ tuple-sum S F p.dimension v (multiple S n o) l negative ∙ ap (λ x. as_tuple v ⊕ x) (tuple-multiple S F p.dimension n o hn k)
+      w_tuple = ap as_tuple is ∙ tuple-sum S F p.dimension v (multiple S n o) l negative
+          ∙ ap (λ x. as_tuple v ⊕ x) (tuple-multiple S F p.dimension n o hn k)
 
       w_combined : as_tuple w ≡ combined
       w_combined =
           let f = scalar_field S F in
           w_tuple ∙ ap (λ x. x ⊕ element S F n · as_tuple o) in_tuples
-          ∙ (let q : combined ⊕ element S F at_last · as_tuple o ⊕ element S F n · as_tuple o ≡ combined ⊕ f.◌⊞◌ (element S F at_last) (element S F n) · as_tuple o = simp linear in q)
+          ∙ (let q : combined ⊕ element S F at_last · as_tuple o ⊕ element S F n · as_tuple o ≡ combined ⊕ f.◌⊞◌ (element S F at_last)
+          (element S F n) · as_tuple o = simp linear in q)
           ∙ ap (λ x. combined ⊕ x · as_tuple o) (sym (element-sum S F at_last n last_in hn) ∙ ap (element S F) zero ∙ element-zero S F)
           ∙ simp linear
 
@@ -184,7 +191,8 @@ module _ (S : Scalars) (F : IsField S) (p : ParityProblem) (P : IsProblem S p) (
       stray apart H co cv = record {
         within = subst (λ m. m < length p.lines) at_j.line (All-get_or (λ m. m < length p.lines) M at_j.index 0 at_j.within i.line_set.within);
         apart = apart;
-        in_lines = subst (λ x. InSpan_of sp (vectors line H) x) (sym w_tuple) (span_plus _ sp (vectors line H) (as_tuple v) (element S F n · as_tuple o) cv
+        in_lines = subst (λ x. InSpan_of sp (vectors line H) x) (sym w_tuple)
+            (span_plus _ sp (vectors line H) (as_tuple v) (element S F n · as_tuple o) cv
             (span_scale _ sp (vectors line H) (element S F n) (as_tuple o) co));
         not_zero = u_not_zero;
         in_class = last_part_in sp line M (positions (length p.lines)) J (as_tuple o) (as_tuple u) other parts
@@ -204,18 +212,22 @@ module _ (S : Scalars) (F : IsField S) (p : ParityProblem) (P : IsProblem S p) (
           parts : LastInvariant sp line M J (as_tuple o) (as_tuple u) other
           parts = record {
             missed = missed_tuple;
-            inside = subst (λ x. InSpan_of sp (vectors line (filter J M)) x) (sym part.is_component) (component_in sp line M J (pairs S F at_lines));
+            inside = subst (λ x. InSpan_of sp (vectors line (filter J M)) x) (sym part.is_component)
+                (component_in sp line M J (pairs S F at_lines));
             others = component_in sp line M (others J) (pairs S F at_lines);
           }
 
     -- with one there is a vector that strays
-    pub stray_by : (r : ParityProblem) (N ds : List ℕ) → r ≡ p → N ≡ M → ds ≡ coordinates_at M cs → (j : ℕ) → HasComponent S N ds j → slice_index labels j ≢ c →
-        (x n : ℕ) → x ≡ last_coordinate M cs → IsScalar S n → S.sum x n ≡ S.zero → (u w : List ℕ) → IsPart S F r labels (slice_index labels j) N ds u →
+    pub stray_by : (r : ParityProblem) (N ds : List ℕ) → r ≡ p → N ≡ M → ds ≡ coordinates_at M cs → (j : ℕ) → HasComponent S N ds j →
+        slice_index labels j ≢ c → (x n : ℕ) → x ≡ last_coordinate M cs → IsScalar S n → S.sum x n ≡ S.zero → (u w : List ℕ) →
+        IsPart S F r labels (slice_index labels j) N ds u →
         w ≡ vector_sum S v (multiple S n o) → (H : List ℕ) → IsIn S F p H o → IsIn S F p H v → IsStrayVector S F p labels H c o M j w u
     stray_by r N ds er eN ed j at_j apart x n ex hn zero u w part is = stray j
-        (subst (λ L. HasComponent S L at_lines j) eN (subst (λ xs. HasComponent S N xs j) ed at_j)) n hn (subst (λ a. S.sum a n ≡ S.zero) ex zero) u w
+        (subst (λ L. HasComponent S L at_lines j) eN (subst (λ xs. HasComponent S N xs j) ed at_j)) n hn
+        (subst (λ a. S.sum a n ≡ S.zero) ex zero) u w
         (subst (λ (q : ParityProblem). IsPart S F q labels (slice_index labels j) M at_lines u) er
-        (subst (λ L. IsPart S F r labels (slice_index labels j) L at_lines u) eN (subst (λ xs. IsPart S F r labels (slice_index labels j) N xs u) ed part)))
+        (subst (λ L. IsPart S F r labels (slice_index labels j) L at_lines u) eN
+        (subst (λ xs. IsPart S F r labels (slice_index labels j) N xs u) ed part)))
         is apart
 
 -- both vectors of the line m are close
@@ -223,11 +235,13 @@ abbrev pub AreClose : (S : Scalars) (F : IsField S) (p : ParityProblem) → List
 AreClose S F p labels c o M m = IsClose S F p labels c o M (line_at p m).0 × IsClose S F p labels c o M (line_at p m).1
 
 -- the vectors of a line of H are in the span of H
-pub first_in : (S : Scalars) (F : IsField S) (p : ParityProblem) (H : List ℕ) (m : ℕ) (v : List ℕ) → Contains H m → v ≡ (line_at p m).0 → IsIn S F p H v
+pub first_in : (S : Scalars) (F : IsField S) (p : ParityProblem) (H : List ℕ) (m : ℕ) (v : List ℕ) → Contains H m → v ≡ (line_at p m).0 →
+    IsIn S F p H v
 first_in S F p H m v h e = subst (IsIn S F p H) (sym e) (span_member _ (space S F p.dimension) (vectors (tuples_at S F p) H) _
     (vectors_first (tuples_at S F p) H m (In-contains H m h)))
 
-pub second_in : (S : Scalars) (F : IsField S) (p : ParityProblem) (H : List ℕ) (m : ℕ) (v : List ℕ) → Contains H m → v ≡ (line_at p m).1 → IsIn S F p H v
+pub second_in : (S : Scalars) (F : IsField S) (p : ParityProblem) (H : List ℕ) (m : ℕ) (v : List ℕ) → Contains H m → v ≡ (line_at p m).1 →
+    IsIn S F p H v
 second_in S F p H m v h e = subst (IsIn S F p H) (sym e) (span_member _ (space S F p.dimension) (vectors (tuples_at S F p) H) _
     (vectors_second (tuples_at S F p) H m (In-contains H m h)))
 

@@ -26,7 +26,8 @@ IsIn S F p H v = InSpan (space S F p.dimension) (vectors (tuples_at S F p) H) (t
 -- u is the part at the lines of M with the label c of the vector that has the coordinates cs over M
 pub record IsPart (S : Scalars) (F : IsField S) (p : ParityProblem) (labels : List ℕ) (c : ℕ) (M cs u : List ℕ) : Type 0 where
   pub is_vector : IsVector S p.dimension u
-  pub is_component : tuple S F p.dimension u ≡ component (space S F p.dimension) (tuples_at S F p) (of_label (slice_index labels) c) M (pairs S F cs)
+  pub is_component : tuple S F p.dimension u ≡ component (space S F p.dimension) (tuples_at S F p) (of_label (slice_index labels) c) M
+      (pairs S F cs)
 
 -- M misses o. The vector v of the span of H has a part u, not zero, at the lines of M in the class of the line j,
 -- which hasn't the label c
@@ -39,7 +40,8 @@ pub record IsStrayVector (S : Scalars) (F : IsField S) (p : ParityProblem) (labe
   pub in_class : IsIn S F p (class_lines (slice_index labels) (positions (length p.lines)) (slice_index labels j)) u
   pub parted : IsParted S F p labels (slice_index labels j) o v u M
 
-abbrev pub TellsSpread : {X : Type 0} (S : Scalars) (F : IsField S) (p : ParityProblem) → List ℕ → List ℕ → ℕ → List ℕ → List ℕ → Spread X → Type 0
+abbrev pub TellsSpread : {X : Type 0} (S : Scalars) (F : IsField S) (p : ParityProblem) → List ℕ → List ℕ → ℕ → List ℕ → List ℕ → Spread X →
+    Type 0
 TellsSpread S F p labels H c o M Wide = IsWideOn S F p H M
 TellsSpread S F p labels H c o M (Stray j v u) = IsStrayVector S F p labels H c o M j v u
 

@@ -112,7 +112,10 @@ fn spread_by<F: Field>(
     requires o_long { length o.now ≡ state.now.problem.dimension }
     requires v_long { length v.now ≡ state.now.problem.dimension }
     requires missed { Misses F.scalars state.now.problem state.now.set (map F.number o.now ∷ []) }
-    requires basis { basis.now ≡ record { width = state.now.problem.dimension; rows = vectors_at state.now.problem state.now.set ++ map F.number o.now ∷ [] } }
+    requires basis { basis.now ≡ record {
+      width = state.now.problem.dimension;
+      rows = vectors_at state.now.problem state.now.set ++ map F.number o.now ∷ [];
+    } }
     ensures { IfOk result (λ found. (L : IsField F.scalars) →
         TellsVector F.scalars L state.now.problem labels.now label (map F.number o.now) state.now.set (map F.number v.now) found) }
 {
@@ -152,7 +155,10 @@ fn spread_with<F: Field>(
     requires within { All (λ m. m < length state.now.problem.lines) lines.now }
     requires long { length o.now ≡ state.now.problem.dimension }
     requires missed { Misses F.scalars state.now.problem state.now.set (map F.number o.now ∷ []) }
-    requires basis { basis.now ≡ record { width = state.now.problem.dimension; rows = vectors_at state.now.problem state.now.set ++ map F.number o.now ∷ [] } }
+    requires basis { basis.now ≡ record {
+      width = state.now.problem.dimension;
+      rows = vectors_at state.now.problem state.now.set ++ map F.number o.now ∷ [];
+    } }
     requires o_in { (L : IsField F.scalars) → IsIn F.scalars L state.now.problem lines.now (map F.number o.now) }
     requires large { class_count labels.now label state.now.set + class_count labels.now label state.now.set + 2
         ≤ rank F.scalars state.now.problem.dimension (vectors_at state.now.problem lines.now) }

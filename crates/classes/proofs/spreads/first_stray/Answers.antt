@@ -5,7 +5,8 @@ use Rattle.classes.proofs.spreads.first_stray.Goals.{else-labels-line-via-then-l
 
 pub returns-then-not-is_zero : goal.returns-then-not-is_zero
 returns-then-not-is_zero g c =
-    let told = zero_told g.F.Field.scalars g.F.Field.number c.args.coordinates.now c.loop-i.i c.is_zero.result (omega arith) c.is_zero.ensures in (
+    let told = zero_told g.F.Field.scalars g.F.Field.number c.args.coordinates.now c.loop-i.i c.is_zero.result
+    (omega arith) c.is_zero.ensures in (
       record {
         index = c.loop-i.i;
         within = omega arith;
@@ -20,7 +21,8 @@ loop-i-preserved g c =
     below_more _ _ c.loop-i.invariant (elim c.else-labels-line.branch [
       | else-labels-line-via-then-labels-line+else-not-is_zero w ↦ inr ((zero_told g.F.Field.scalars g.F.Field.number c.args.coordinates.now
           c.loop-i.i w.is_zero.result (omega arith) w.is_zero.ensures).0 w.if-not-is_zero.false)
-      | else-labels-line-via-else-labels-line w ↦ inl (subst (λ m. get_or c.args.labels.now m 0 ≡ c.args.label) c.at-line.ensures w.if-labels-line.false)
+      | else-labels-line-via-else-labels-line w ↦ inl
+          (subst (λ m. get_or c.args.labels.now m 0 ≡ c.args.label) c.at-line.ensures w.if-labels-line.false)
     ])
 
 pub returns : goal.returns

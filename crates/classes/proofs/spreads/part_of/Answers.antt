@@ -17,7 +17,8 @@ loop-i-init g c L =
 
 pub add_line-requires-clause-within : goal.add_line-requires-clause-within
 add_line-requires-clause-within g c = let p = c.args.problem.now in
-    subst (λ m. m < length p.lines) (sym c.at-line.ensures) (All-get_or (λ m. m < length p.lines) c.args.set.now c.loop-i.i 0 (omega arith) c.requires.within)
+    subst (λ m. m < length p.lines) (sym c.at-line.ensures)
+    (All-get_or (λ m. m < length p.lines) c.args.set.now c.loop-i.i 0 (omega arith) c.requires.within)
 
 pub add_line-requires-clause-long : goal.add_line-requires-clause-long
 add_line-requires-clause-long g c = (c.loop-i.invariant g.met.F.Field.lawful).is_vector.length_is
@@ -37,7 +38,8 @@ loop-i-preserved g c L =
     let v = vector_of_values S f g.met.F.Field.is_scalar xs (2 * length M) c.requires.long in
     elim c.if-labels-line.branch as (λ _. IsPartBelow S L p labels label M cs (i + 1) c.if-labels-line.part) [
       | then-labels-line w ↦ part_taken S L p labels label M cs P c.requires.within v i (omega arith) c.loop-i.part (c.loop-i.invariant L)
-          c.at-line.result (f w.index-coordinates-i.result) (f w.index-coordinates-i-then-labels-line.result) c.if-labels-line.part c.at-line.ensures
+          c.at-line.result (f w.index-coordinates-i.result)
+          (f w.index-coordinates-i-then-labels-line.result) c.if-labels-line.part c.at-line.ensures
           (entry_is f xs (2 * i) w.index-coordinates-i.result w.index-coordinates-i.is (omega arith))
           (entry_is f xs (2 * i + 1) w.index-coordinates-i-then-labels-line.result w.index-coordinates-i-then-labels-line.is (omega arith))
           (subst (λ m. get_or labels m 0 ≡ label) c.at-line.ensures w.if-labels-line.true) (w.part-is ∙ w.add_line.ensures)

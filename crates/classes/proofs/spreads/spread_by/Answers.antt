@@ -18,15 +18,18 @@ told g c =
     let v : List ℕ = map g.F.Field.number c.args.v.now in
     let b = c.args.basis.now in
     subst (λ (b : Matrix). Combines S b.width b.rows c.in-Some.coefficients v) c.requires.basis
-    (subst (λ found. MatchOption found (¬ (InSpan S b.width b.rows v)) (λ cs. Combines S b.width b.rows cs v)) c.in-Some.is c.in_ok-coefficients.ensures)
+    (subst (λ found. MatchOption found (¬ (InSpan S b.width b.rows v))
+    (λ cs. Combines S b.width b.rows cs v)) c.in-Some.is c.in_ok-coefficients.ensures)
 
-long : (g : Over) (c : After-as_slice-entries g) → length (take (length c.as_slice-entries.result.now - 1) c.as_slice-entries.result.now) ≡ 2 * length c.set-set.result.now
+long : (g : Over) (c : After-as_slice-entries g) →
+    length (take (length c.as_slice-entries.result.now - 1) c.as_slice-entries.result.now) ≡ 2 * length c.set-set.result.now
 long g c =
     let p = c.args.state.now.problem in
     let M = c.args.state.now.set in
     let f = g.F.Field.number in
     long_but_last f c.as_slice-entries.result.now M c.in-Some.coefficients
-    (coordinates_long g.F.Field.scalars p M (map f c.args.o.now) (map f c.args.v.now) c.in-Some.coefficients (told g c)) c.as_slice-entries.ensures.value
+    (coordinates_long g.F.Field.scalars p M (map f c.args.o.now) (map f c.args.v.now) c.in-Some.coefficients
+    (told g c)) c.as_slice-entries.ensures.value
     ∙ ap (λ L. 2 * length L) (sym c.set-set.ensures.value)
 
 pub first_stray-requires-clause-long : goal.first_stray-requires-clause-long
@@ -89,8 +92,10 @@ returns g c L H co cv =
     stray_by S L p P M c.set-set.ensures.independent labels c.args.label o
     (vector_of_values S f g.met.F.Field.is_scalar c.args.o.now p.dimension c.requires.o_long) c.requires.missed v
     (vector_of_values S f g.met.F.Field.is_scalar c.args.v.now p.dimension c.requires.v_long) cs t c.problem-problem.result.now c.set-set.result.now
-    (map f (take (length xs - 1) xs)) c.problem-problem.ensures c.set-set.ensures.value (all_but_last f xs M cs long c.as_slice-entries.ensures.value)
+    (map f (take (length xs - 1) xs)) c.problem-problem.ensures c.set-set.ensures.value
+    (all_but_last f xs M cs long c.as_slice-entries.ensures.value)
     c.in-Some-first_stray.line c.in-Some-first_stray.ensures.0 c.in-Some-first_stray.ensures.1 (f c.index-entries-last.result) n
-    (last_is f xs M cs long c.as_slice-entries.ensures.value c.index-entries-last.result c.index-entries-last.is) (g.met.F.Field.is_scalar c.neg.result)
+    (last_is f xs M cs long c.as_slice-entries.ensures.value c.index-entries-last.result c.index-entries-last.is)
+    (g.met.F.Field.is_scalar c.neg.result)
     c.neg.ensures c.in_ok-part.part c.add_multiple.new.self (c.in_ok-part.ensures L)
     (c.add_multiple.ensures ∙ ap (λ x. vector_sum S x (multiple S n o)) c.in_ok-vector.ensures) H co cv

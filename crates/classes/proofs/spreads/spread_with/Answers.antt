@@ -18,9 +18,11 @@ loop-i-preserved g c L =
     let o : List ℕ = map f c.args.o.now in
     let close : List ℕ → Type 0 = λ v. IsClose S L p labels c.args.label o M v in
     below_more (λ k. AreClose S L p labels c.args.label o M (get_or H k 0)) c.loop-i.i (c.loop-i.invariant L) (
-      subst close (c.first.ensures.value ∙ ap (λ q. (line_at q c.at-line.result).0) c.problem-problem.ensures ∙ ap (λ m. (line_at p m).0) c.at-line.ensures)
+      subst close (c.first.ensures.value ∙ ap (λ q. (line_at q c.at-line.result).0) c.problem-problem.ensures
+          ∙ ap (λ m. (line_at p m).0) c.at-line.ensures)
           (subst (TellsVector S L p labels c.args.label o M (map f c.first.result.now)) c.in_default.is (c.in_ok-found.ensures L)),
-      subst close (c.second.ensures.value ∙ ap (λ q. (line_at q c.at-line.result).1) c.problem-problem.ensures ∙ ap (λ m. (line_at p m).1) c.at-line.ensures)
+      subst close (c.second.ensures.value ∙ ap (λ q. (line_at q c.at-line.result).1) c.problem-problem.ensures
+          ∙ ap (λ m. (line_at p m).1) c.at-line.ensures)
           (subst (TellsVector S L p labels c.args.label o M (map f c.second.result.now)) c.in_default-2.is (c.in_ok-found-2.ensures L)),
     )
 
@@ -45,7 +47,8 @@ returns-in-Some g c L =
     let o : List ℕ = map f c.args.o.now in
     let m = c.at-line.result in
     let v : List ℕ = map f c.first.result.now in
-    subst (TellsVector S L p c.args.labels.now c.args.label o c.args.state.now.set v) c.in-Some.is (c.in_ok-found.ensures L) H (c.requires.o_in L)
+    subst (TellsVector S L p c.args.labels.now c.args.label o c.args.state.now.set v) c.in-Some.is (c.in_ok-found.ensures L) H
+    (c.requires.o_in L)
     (first_in S L p H m v (subst (λ l. Contains H l) (sym c.at-line.ensures) (Contains-get_or H c.loop-i.i 0 (omega arith)))
     (c.first.ensures.value ∙ ap (λ q. (line_at q m).0) c.problem-problem.ensures))
 
@@ -58,6 +61,7 @@ returns-in-Some-2 g c L =
     let o : List ℕ = map f c.args.o.now in
     let m = c.at-line.result in
     let v : List ℕ = map f c.second.result.now in
-    subst (TellsVector S L p c.args.labels.now c.args.label o c.args.state.now.set v) c.in-Some-2.is (c.in_ok-found-2.ensures L) H (c.requires.o_in L)
+    subst (TellsVector S L p c.args.labels.now c.args.label o c.args.state.now.set v) c.in-Some-2.is (c.in_ok-found-2.ensures L) H
+    (c.requires.o_in L)
     (second_in S L p H m v (subst (λ l. Contains H l) (sym c.at-line.ensures) (Contains-get_or H c.loop-i.i 0 (omega arith)))
     (c.second.ensures.value ∙ ap (λ q. (line_at q m).1) c.problem-problem.ensures))

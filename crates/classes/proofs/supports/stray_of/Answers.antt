@@ -9,7 +9,8 @@ first_apart-requires g c =
     let S = g.F.Field.scalars in
     let p = c.args.state.now.problem in
     let M = c.args.state.now.set in
-    let h = subst (λ found. MatchOption found (¬ (IsExposed S p M c.args.line)) (HasSupport S p M c.args.line)) c.in-Some.is c.in_ok-support.ensures in
+    let h = subst (λ found. MatchOption found (¬ (IsExposed S p M c.args.line))
+    (HasSupport S p M c.args.line)) c.in-Some.is c.in_ok-support.ensures in
     λ m k. subst (λ n. m < n) (sym c.requires.labels) (support_within S p M c.set-set.ensures.independent c.args.line c.in-Some.support h m k)
 
 pub returns-in-Some : goal.returns-in-Some
@@ -17,5 +18,6 @@ returns-in-Some g c =
     let S = g.F.Field.scalars in
     let p = c.args.state.now.problem in
     let M = c.args.state.now.set in
-    let h = subst (λ found. MatchOption found (¬ (IsExposed S p M c.args.line)) (HasSupport S p M c.args.line)) c.in-Some.is c.in_ok-support.ensures in
+    let h = subst (λ found. MatchOption found (¬ (IsExposed S p M c.args.line))
+    (HasSupport S p M c.args.line)) c.in-Some.is c.in_ok-support.ensures in
     stray_told S p c.args.labels.now M c.args.line c.in-Some.support c.requires.within h c.first_apart.result c.first_apart.ensures

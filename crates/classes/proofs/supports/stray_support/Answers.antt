@@ -9,7 +9,8 @@ loop-line-preserved g c =
     let p = c.args.state.now.problem in
     let M = c.args.state.now.set in
     below_more _ _ c.loop-line.invariant
-    (subst (λ found. MatchOption found (StaysInClass S p c.args.labels.now M c.loop-line.line) (IsStray S p c.args.labels.now M c.loop-line.line))
+    (subst (λ found. MatchOption found (StaysInClass S p c.args.labels.now M c.loop-line.line)
+    (IsStray S p c.args.labels.now M c.loop-line.line))
     c.in_default.is c.in_ok-other.ensures)
 
 pub returns : goal.returns
