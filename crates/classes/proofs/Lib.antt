@@ -13,3 +13,5 @@ pub mod TransitTies
 pub mod PacedTies
 pub mod CrossingTies
 pub mod LastTies
+pub mod SpreadParts
+pub mod SpreadTies

@@ -11,3 +11,4 @@ pub mod Pacing
 pub mod Crossings
 pub mod Parted
 pub mod Lasting
+pub mod Spreads

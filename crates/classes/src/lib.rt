@@ -17,6 +17,7 @@ mod labels;
 mod lasting;
 mod outcome;
 mod pacing;
+mod spreads;
 mod starting;
 mod supports;
 mod table;
