@@ -11,3 +11,6 @@ pub mod Pacing
 pub mod Crossings
 pub mod Parted
 pub mod Lasting
+pub mod Spreads
+pub mod Missed
+pub mod Turns

@@ -1,0 +1,35 @@
+-- Lines over a set: the set is wide on them, or a vector of both spans has a part in another class.
+use Rattle.std.specs.Prelude.{◌≡◌, ◌≢◌, ℕ, ◌<◌, List, [], ◌∷◌, length, slice_index}
+use Rattle.vector_spaces.proofs.Span.{InSpan}
+use Rattle.class_theory.proofs.Classes.{class_lines}
+use Rattle.class_theory.proofs.LinesBelow.{positions}
+use Rattle.linear_algebra.specs.Scalars.{Scalars, IsField}
+use Rattle.linear_algebra.specs.Vectors.{zero_vector}
+use Rattle.linear_algebra.proofs.Coordinates.{tuple, space}
+use Rattle.classes.specs.Parted.{IsParted}
+use Rattle.classes.specs.declared.spreads.Spread.{Spread}
+use Rattle.classes.specs.declared.spreads.Spread.TheVariants.{Wide, Stray}
+use Rattle.parity_lines.proofs.Border.{tuples_at}
+use Rattle.parity_lines.specs.Problems.{ParityProblem}
+use Rattle.parity_theory.proofs.Lines.{vectors}
+use Rattle.parity_theory.proofs.Widths.{IsWide}
+
+-- the set M is wide on the lines H, and the vector v is in their span
+abbrev pub IsWideOn : (S : Scalars) (F : IsField S) (p : ParityProblem) → List ℕ → List ℕ → Type 0
+IsWideOn S F p H M = IsWide (space S F p.dimension) (tuples_at S F p) M (vectors (tuples_at S F p) H)
+
+abbrev pub IsIn : (S : Scalars) (F : IsField S) (p : ParityProblem) → List ℕ → List ℕ → Type 0
+IsIn S F p H v = InSpan (space S F p.dimension) (vectors (tuples_at S F p) H) (tuple S F p.dimension v)
+
+-- M misses o. The vector v of the span of H has a part u, not zero, at the lines of M in the class of the line j, which hasn't the label c
+pub record IsStrayVector (S : Scalars) (F : IsField S) (p : ParityProblem) (labels H : List ℕ) (c : ℕ) (o M : List ℕ) (j : ℕ) (v u : List ℕ) : Type 0 where
+  pub within : j < length p.lines
+  pub apart : slice_index labels j ≢ c
+  pub in_lines : IsIn S F p H v
+  pub not_zero : u ≢ zero_vector S p.dimension
+  pub in_class : IsIn S F p (class_lines (slice_index labels) (positions (length p.lines)) (slice_index labels j)) u
+  pub parted : IsParted S F p labels (slice_index labels j) o v u M
+
+abbrev pub TellsSpread : {X : Type 0} (S : Scalars) (F : IsField S) (p : ParityProblem) → List ℕ → List ℕ → ℕ → List ℕ → List ℕ → Spread X → Type 0
+TellsSpread S F p labels H c o M Wide = IsWideOn S F p H M
+TellsSpread S F p labels H c o M (Stray j v u) = IsStrayVector S F p labels H c o M j v u
