@@ -1,15 +1,14 @@
 //! The turn of a class that is too large for a member.
 
-ghost use Rattle.std.specs.Prelude.{◌≡◌, ◌≢◌, ◌<◌, IfOk, length, map, slice_index_or, slice_index, []};
+ghost use Rattle.std.specs.Prelude.{◌≡◌, ◌≢◌, ◌<◌, [], ◌∷◌, IfOk, length, map, slice_index_or};
 ghost use Rattle.linear_algebra.specs.Scalars.{IsField};
 ghost use Rattle.linear_algebra.specs.Vectors.{zero_vector};
 ghost use Rattle.matching_state.specs.Missing.{Misses};
 ghost use Rattle.classes.specs.Divisions.{IsLargeClass};
 ghost use Rattle.classes.specs.Ends.{IsSetOf};
 ghost use Rattle.classes.specs.Lasting.{IsLasting};
-ghost use Rattle.classes.specs.Missed.{IsNonzeroOf};
+ghost use Rattle.classes.specs.Missed.{AreSeparated, IsNonzeroOf};
 ghost use Rattle.classes.specs.Partitions.{TellsClasses};
-ghost use Rattle.classes.specs.Spreads.{IsIn};
 ghost use Rattle.classes.specs.Tables.{akin_at};
 ghost use Rattle.classes.specs.Turns.{AreClasses, AreOfClass, IsCrossing, IsSplit, IsTurn, TellsTurned, size_of};
 
@@ -21,7 +20,7 @@ use crate::lasting::last_exchanges;
 use crate::missed::{member_missing, missed_of, nonzero_of, separator_of};
 use crate::outcome::Classes;
 use crate::pacing::{Walked, reach};
-use crate::spreads::{Spread, spread};
+use crate::spreads::{Spread, spread_over};
 use crate::starting::started;
 use crate::table::Table;
 use crate::turned::Turned;
@@ -64,6 +63,16 @@ fn crossing_of<F: Field>(
     line: usize,
     part: &[F],
 ) -> Result<Crossing, AllocError>
+    requires turn { (L : IsField F.scalars) → IsTurn F.scalars L family.now table.now }
+    requires set { IsSetOf F.scalars family.now.problem (size_of family.now) set.now }
+    requires label_within { label < length family.now.problem.lines }
+    requires line_within { line < length family.now.problem.lines }
+    requires apart { AreSeparated table.now label line }
+    requires long { length o.now ≡ family.now.problem.dimension }
+    requires missed { Misses F.scalars family.now.problem set.now (map F.number o.now ∷ []) }
+    requires part_long { length part.now ≡ family.now.problem.dimension }
+    requires part_not_zero { map F.number part.now ≢ zero_vector F.scalars family.now.problem.dimension }
+    ensures { IfOk result (IsCrossing F.scalars family.now.problem (size_of family.now) label line (map F.number o.now) (map F.number part.now)) }
 {
     let (alloc, problem) = (family.alloc(), family.problem());
     let (_members, _lines) = (family.len(), problem.len());
@@ -84,6 +93,16 @@ fn last_turn<F: Field>(
     o: &[F],
     vector: &[F],
 ) -> Result<Turned, AllocError>
+    requires turn { (L : IsField F.scalars) → IsTurn F.scalars L family.now table.now }
+    requires classes { AreClasses (length family.now.problem.lines) (akin_at table.now) labels.now }
+    requires problem { state.old.problem ≡ family.now.problem }
+    requires size { length state.old.set ≡ size_of family.now }
+    requires target { IsSetOf F.scalars family.now.problem (size_of family.now) target.now }
+    requires long { length o.now ≡ family.now.problem.dimension }
+    requires vector_long { length vector.now ≡ family.now.problem.dimension }
+    requires of_class { (L : IsField F.scalars) → AreOfClass F.scalars L family.now.problem labels.now (map F.number o.now) (map F.number vector.now) }
+    requires lasting { (L : IsField F.scalars) → IsLasting F.scalars L family.now.problem labels.now target.now (map F.number o.now) (map F.number vector.now) state.old.set }
+    ensures { IfOk result (λ turned. (L : IsField F.scalars) → TellsTurned F.scalars L family.now.problem (size_of family.now) table.now turned) }
 {
     match last_exchanges(state, labels, target, o, vector)? {
         Walked::Larger(larger) => Ok(Turned::Ended(Classes::Larger(larger))),
@@ -102,8 +121,17 @@ fn spread_turn<F: Field>(
     o: &[F],
     state: &mut Matched<'_, F>,
 ) -> Result<Turned, AllocError>
+    requires turn { (L : IsField F.scalars) → IsTurn F.scalars L family.now table.now }
+    requires classes { AreClasses (length family.now.problem.lines) (akin_at table.now) labels.now }
+    requires problem { state.old.problem ≡ family.now.problem }
+    requires size { length state.old.set ≡ size_of family.now }
+    requires large { IsLargeClass F.scalars family.now.problem labels.now state.old.set label class.now }
+    requires long { length o.now ≡ family.now.problem.dimension }
+    requires of_label { IsNonzeroOf F.scalars family.now.problem label (map F.number o.now) }
+    requires missed { Misses F.scalars family.now.problem state.old.set (map F.number o.now ∷ []) }
+    ensures { IfOk result (λ turned. (L : IsField F.scalars) → TellsTurned F.scalars L family.now.problem (size_of family.now) table.now turned) }
 {
-    match spread(state, labels, class, label, o)? {
+    match spread_over(state, labels, class, label, o)? {
         Spread::Wide => Ok(Turned::Grown(state.set().copied()?)),
         Spread::Stray { line, vector, part } => {
             match crossing_of(family, table, state.set(), label, o, line, part.as_slice())? {
@@ -126,6 +154,10 @@ fn large_turn<F: Field>(
     label: usize,
     class: &LineSet,
 ) -> Result<Turned, AllocError>
+    requires turn { (L : IsField F.scalars) → IsTurn F.scalars L family.now table.now }
+    requires classes { AreClasses (length family.now.problem.lines) (akin_at table.now) labels.now }
+    requires large { IsLargeClass F.scalars family.now.problem labels.now (slice_index_or family.now.sets 0 []) label class.now }
+    ensures { IfOk result (λ turned. (L : IsField F.scalars) → TellsTurned F.scalars L family.now.problem (size_of family.now) table.now turned) }
 {
     let (alloc, problem) = (family.alloc(), family.problem());
     let (_members, _lines) = (family.len(), problem.len());
@@ -145,6 +177,9 @@ pub fn class_turn<F: Field>(
     table: &Table,
     labels: &[usize],
 ) -> Result<Turned, AllocError>
+    requires turn { (L : IsField F.scalars) → IsTurn F.scalars L family.now table.now }
+    requires classes { AreClasses (length family.now.problem.lines) (akin_at table.now) labels.now }
+    ensures { IfOk result (λ turned. (L : IsField F.scalars) → TellsTurned F.scalars L family.now.problem (size_of family.now) table.now turned) }
 {
     let (_members, _lines) = (family.len(), family.problem().len());
     match division_of(family.alloc(), family.problem(), labels, family.member(0))? {

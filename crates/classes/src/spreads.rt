@@ -104,7 +104,7 @@ fn spread_by<F: Field>(
 
 /// What the set, which misses the vector `o` of the lines, is to the lines, whose rank is above that of the set's lines
 /// with this label by two.
-pub fn spread<F: Field>(
+pub fn spread_over<F: Field>(
     state: &Matched<'_, F>,
     labels: &[usize],
     lines: &LineSet,
