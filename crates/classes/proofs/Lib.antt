@@ -13,3 +13,7 @@ pub mod TransitTies
 pub mod PacedTies
 pub mod CrossingTies
 pub mod LastTies
+pub mod PairsApart
+pub mod TurnTies
+pub mod ClassTies
+pub mod TripleTies
