@@ -17,3 +17,6 @@ pub mod PairsApart
 pub mod TurnTies
 pub mod ClassTies
 pub mod TripleTies
+pub mod MissedTies
+pub mod GrowthTies
+pub mod LargeTies

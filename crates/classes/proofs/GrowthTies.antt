@@ -1,0 +1,94 @@
+-- A family that grows: its problem, its size and what its sets have in common, and fewer akin pairs.
+use Rattle.std.proofs.Common.{◌≡◌, ◌≢◌, ℕ, suc, ◌<◌, ◌⊎◌, inl, inr, List, [], ◌∷◌, ◌++◌, append-nil, append_assoc, length, get_or, take, refl, sym, ap, ◌∙◌, subst, arith, All}
+use Rattle.std.specs.Prelude.{◌↔◌}
+use Rattle.std.specs.List.{Contains}
+use Rattle.std.specs.List.Sorted.{IsStrictlyIncreasing}
+use Rattle.std.proofs.lemmas.List.{get_or_append_left}
+use Rattle.std.proofs.lemmas.List.Elements.{All-nil, All-cons, All-append}
+use Rattle.vector_spaces.proofs.Members.{In-all, In-append_left, In-append_right, all-In}
+use Rattle.class_theory.proofs.Families.{Grows, growing_falls}
+use Rattle.class_theory.proofs.PairCounts.{pairs_below}
+use Rattle.exchanges.proofs.LargerSets.{larger_by_line}
+use Rattle.families.specs.Families.{IsCommon, IsFamily, SetFamily, Spans}
+use Rattle.linear_algebra.specs.Scalars.{Scalars, IsField}
+use Rattle.linear_algebra.proofs.Coordinates.{space}
+use Rattle.matching_state.proofs.Ties.{free_rank}
+use Rattle.parity_lines.proofs.Border.{tuples_at}
+use Rattle.parity_lines.specs.LineSets.{IsIndependentSet}
+use Rattle.parity_lines.specs.Problems.{ParityProblem, IsProblem}
+use Rattle.parity_theory.proofs.Lines.{IsFree}
+use Rattle.parity_theory.proofs.Places.{free_of_independent}
+use Rattle.classes.proofs.TableLaws.{akin_table}
+use Rattle.classes.proofs.TurnTies.{not_empty, size-size_of, turn_family}
+use Rattle.classes.specs.Ends.{IsSetOf}
+use Rattle.classes.specs.Partitions.{HasGrown, HasNoCommon}
+use Rattle.classes.specs.Tables.{IsTableOf, Separators, akin_at}
+use Rattle.classes.specs.Turns.{IsGrowth, IsTurn, size_of}
+
+-- a set with a line that is free over it
+pub larger_by_free : (S : Scalars) (F : IsField S) (p : ParityProblem) → IsProblem S p → (M : List ℕ) → IsIndependentSet S p M → (e : ℕ) (N : List ℕ) →
+    e < length p.lines → IsFree (space S F p.dimension) (tuples_at S F p) M e → IsStrictlyIncreasing N →
+    ((l : ℕ) → Contains N l ↔ (Contains M l ⊎ (l ≡ e))) → IsSetOf S p (suc (length M)) N
+larger_by_free S F p P M i e N b h s l =
+    let r = larger_by_line S F p P M i e N b (free_rank S F p P M e i b (free_of_independent (space S F p.dimension) (tuples_at S F p) M e h)) s l in
+    record { independent = r.independent; size = r.longer }
+
+abbrev pub with_set : SetFamily → List ℕ → SetFamily
+with_set f M = record { problem = f.problem; sets = f.sets ++ M ∷ [] }
+
+module _ (S : Scalars) (f : SetFamily) (k : IsFamily S f) (n : HasNoCommon S f) where
+  pub grown_by_none : HasGrown S f f
+  grown_by_none = record { problem = refl; added = []; sets = sym (append-nil f.sets); family = k; no_common = n }
+
+  module _ (M : List ℕ) (i : IsSetOf S f.problem (size_of f) M) where
+    more_family : IsFamily S (with_set f M)
+    more_family = record {
+      nonempty = λ e. not_nil f.sets e;
+      independent = All-append (IsIndependentSet S f.problem) f.sets (M ∷ []) k.independent
+          (All-cons (IsIndependentSet S f.problem) M [] i.independent (All-nil (IsIndependentSet S f.problem)));
+      size = k.size;
+      sizes = All-append (λ (set : List ℕ). length set ≡ k.size) f.sets (M ∷ []) k.sizes
+          (All-cons (λ (set : List ℕ). length set ≡ k.size) M [] (i.size ∙ sym (size-size_of S f k)) (All-nil (λ (set : List ℕ). length set ≡ k.size)));
+    }
+      where
+        not_nil : (xs : List (List ℕ)) → xs ++ M ∷ [] ≢ []
+        not_nil [] e = let l = ap length e in absurd (omega arith)
+        not_nil (x ∷ xs) e = let l = ap length e in absurd (omega arith)
+
+    pub grown_by_set : HasGrown S f (with_set f M)
+    grown_by_set = record {
+      problem = refl;
+      added = M ∷ [];
+      sets = refl;
+      family = more_family;
+      no_common = λ v w c. n v w (all-In (Spans S f.problem v) f.sets
+          (λ N j. In-all (Spans S f.problem v) (f.sets ++ M ∷ []) c N (In-append_left N f.sets (M ∷ []) j)));
+    }
+
+pub grown_trans : (S : Scalars) (f g h : SetFamily) → HasGrown S f g → HasGrown S g h → HasGrown S f h
+grown_trans S f g h a b = record {
+  problem = b.problem ∙ a.problem;
+  added = a.added ++ b.added;
+  sets = b.sets ∙ ap (λ (s : List (List ℕ)). s ++ b.added) a.sets ∙ append_assoc f.sets a.added b.added;
+  family = b.family;
+  no_common = b.no_common;
+}
+
+pub same_size : (S : Scalars) (f g : SetFamily) → IsFamily S f → HasGrown S f g → size_of g ≡ size_of f
+same_size S f g k h = ap (λ (s : List (List ℕ)). length (get_or s 0 [])) h.sets
+    ∙ ap length (get_or_append_left f.sets h.added [] 0 (not_empty f.sets k.nonempty))
+
+-- the table with a set that separates two akin lines has fewer akin pairs
+pub fewer_pairs : (S : Scalars) (F : IsField S) (f : SetFamily) (P : IsProblem S f.problem) (k : IsFamily S f) (t after : Separators) → IsTurn S F f t → (M : List ℕ) →
+    IsGrowth S F f.problem (size_of f) t M → IsTableOf S F f.problem (f.sets ++ M ∷ []) after →
+    pairs_below (length f.problem.lines) (akin_at after) < pairs_below (length f.problem.lines) (akin_at t)
+fewer_pairs S F f P k t after h M g a =
+    growing_falls (turn_family S F f P k t h) M (f.sets ++ M ∷ []) (akin_at after) grows (λ N j. In-append_left N f.sets (M ∷ []) j)
+    (In-append_right M f.sets (M ∷ []) (inl refl))
+    (akin_table (space S F f.problem.dimension) (tuples_at S F f.problem) (f.sets ++ M ∷ []) (length f.problem.lines) after a)
+  where
+    grows : Grows (space S F f.problem.dimension) (tuples_at S F f.problem) (length f.problem.lines) (akin_at t) M
+    grows = elim g.separates [
+      | inl r ↦ absurd (a.not_free M (In-append_right M f.sets (M ∷ []) (inl refl)) r.0 r.1 r.2)
+      | inr r ↦ r
+    ]
