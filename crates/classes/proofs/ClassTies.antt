@@ -64,9 +64,6 @@ module _ (S : Scalars) (F : IsField S) (f : SetFamily) (P : IsProblem S f.proble
 
 module _ (S : Scalars) (F : IsField S) (f : SetFamily) (P : IsProblem S f.problem) (k : IsFamily S f) (t : Separators) (h : IsTurn S F f t)
     (labels : List ℕ) (c : AreClasses (length f.problem.lines) (akin_at t) labels) where
-  abbrev n : ℕ
-  n = length f.problem.lines
-
   abbrev sp : Space (scalar_field S F) (Tuple (Element S) f.problem.dimension)
   sp = space S F f.problem.dimension
 
@@ -88,7 +85,7 @@ module _ (S : Scalars) (F : IsField S) (f : SetFamily) (P : IsProblem S f.proble
   -- lines with different labels aren't akin
   pub labels_apart : (i j : ℕ) → i < length f.problem.lines → j < length f.problem.lines → slice_index labels j ≢ slice_index labels i → akin_at t i j ≡ false
   labels_apart i j a b m = elim (cases_Bool (akin_at t i j)) [
-    | inl e ↦ absurd (m (c.labels.each j b ∙ sym ((c.exact i a j b).labelled e) ∙ sym (c.labels.each i a)))
+    | inl e ↦ absurd (m (c.told.each j b ∙ sym ((c.exact i a j b).labelled e) ∙ sym (c.told.each i a)))
     | inr e ↦ e
   ]
 
@@ -105,7 +102,7 @@ module _ (S : Scalars) (F : IsField S) (f : SetFamily) (P : IsProblem S f.proble
   pub lines_same : (all : List ℕ) (l : IsListing (length f.problem.lines) all) (d : ℕ) →
       class_lines (slice_index labels) all d ≡ lines_of (exact_by all l) d
   lines_same all l d = filter_same (of_label (slice_index labels) d) (of_label (label (akin_at t)) d) all
-      (λ x j. ap (λ m. of_label (λ z. m) d x) (c.labels.each x (l.below x j)))
+      (λ x j. ap (λ m. of_label (λ z. m) d x) (c.told.each x (l.below x j)))
 
   module _ (all : List ℕ) (l : IsListing (length f.problem.lines) all) (d : ℕ) (M : List ℕ) (q : IsSetOf S f.problem (size_of f) M) where
     -- progress on a class
@@ -132,7 +129,7 @@ module _ (S : Scalars) (F : IsField S) (f : SetFamily) (P : IsProblem S f.proble
         (subst (λ L. IsWideOn S F f.problem L M) (lines_same all l d) w))
 
   listing_labels : IsListing (length f.problem.lines) (listing (length labels))
-  listing_labels = subst (λ m. IsListing (length f.problem.lines) (listing m)) (sym c.labels.long) (listing_listing (length f.problem.lines))
+  listing_labels = subst (λ m. IsListing (length f.problem.lines) (listing m)) (sym c.told.long) (listing_listing (length f.problem.lines))
 
   pub growth_of_class : (M : List ℕ) → IsSetOf S f.problem (size_of f) M → (o v : List ℕ) → IsVector S f.problem.dimension o →
       IsVector S f.problem.dimension v → AreOfClass S F f.problem labels o v → Misses S f.problem M (o ∷ v ∷ []) → IsGrowth S F f.problem (size_of f) t M

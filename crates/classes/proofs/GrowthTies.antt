@@ -1,11 +1,13 @@
 -- A family that grows: its problem, its size and what its sets have in common, and fewer akin pairs.
-use Rattle.std.proofs.Common.{◌≡◌, ◌≢◌, ℕ, suc, ◌<◌, ◌⊎◌, inl, inr, List, [], ◌∷◌, ◌++◌, append-nil, append_assoc, length, get_or, take, refl, sym, ap, ◌∙◌, subst, arith, All}
+use Rattle.std.proofs.Common.{◌≡◌, ◌≢◌, ℕ, suc, ◌<◌, ◌⊎◌, inl, inr, List, [], ◌∷◌, ◌++◌, append-nil, append_assoc, length, get_or, take, refl, sym, ap, ◌∙◌, subst, arith, All, true, false}
 use Rattle.std.specs.Prelude.{◌↔◌}
 use Rattle.std.specs.List.{Contains}
 use Rattle.std.specs.List.Sorted.{IsStrictlyIncreasing}
+use Rattle.std.proofs.lemmas.Bool.{cases_Bool}
 use Rattle.std.proofs.lemmas.List.{get_or_append_left}
 use Rattle.std.proofs.lemmas.List.Elements.{All-nil, All-cons, All-append}
 use Rattle.vector_spaces.proofs.Members.{In-all, In-append_left, In-append_right, all-In}
+use Rattle.class_theory.proofs.AkinTables.{IsAkinTable}
 use Rattle.class_theory.proofs.Families.{Grows, growing_falls}
 use Rattle.class_theory.proofs.PairCounts.{pairs_below}
 use Rattle.exchanges.proofs.LargerSets.{larger_by_line}
@@ -19,10 +21,10 @@ use Rattle.parity_lines.specs.Problems.{ParityProblem, IsProblem}
 use Rattle.parity_theory.proofs.Lines.{IsFree}
 use Rattle.parity_theory.proofs.Places.{free_of_independent}
 use Rattle.classes.proofs.TableLaws.{akin_table}
-use Rattle.classes.proofs.TurnTies.{not_empty, size-size_of, turn_family}
+use Rattle.classes.proofs.TurnTies.{nonzero_live, not_empty, size-size_of, turn_family}
 use Rattle.classes.specs.Ends.{IsSetOf}
 use Rattle.classes.specs.Partitions.{HasGrown, HasNoCommon}
-use Rattle.classes.specs.Tables.{IsTableOf, Separators, akin_at}
+use Rattle.classes.specs.Tables.{IsTableOf, Separators, akin_at, live_at}
 use Rattle.classes.specs.Turns.{IsGrowth, IsTurn, size_of}
 
 -- a set with a line that is free over it
@@ -84,11 +86,31 @@ pub fewer_pairs : (S : Scalars) (F : IsField S) (f : SetFamily) (P : IsProblem S
     pairs_below (length f.problem.lines) (akin_at after) < pairs_below (length f.problem.lines) (akin_at t)
 fewer_pairs S F f P k t after h M g a =
     growing_falls (turn_family S F f P k t h) M (f.sets ++ M ∷ []) (akin_at after) grows (λ N j. In-append_left N f.sets (M ∷ []) j)
-    (In-append_right M f.sets (M ∷ []) (inl refl))
-    (akin_table (space S F f.problem.dimension) (tuples_at S F f.problem) (f.sets ++ M ∷ []) (length f.problem.lines) after a)
+    (In-append_right M f.sets (M ∷ []) (inl refl)) table
   where
     grows : Grows (space S F f.problem.dimension) (tuples_at S F f.problem) (length f.problem.lines) (akin_at t) M
     grows = elim g.separates [
       | inl r ↦ absurd (a.not_free M (In-append_right M f.sets (M ∷ []) (inl refl)) r.0 r.1 r.2)
       | inr r ↦ r
     ]
+
+    -- the same lines are live by both tables
+    before : (i : ℕ) → i < length f.problem.lines → live_at after i ≡ true → live_at t i ≡ true
+    before i b e = let q = (a.lives.each i b).alive e in nonzero_live S F f P k t h i b q.0 q.1 q.2
+
+    still : (i : ℕ) → i < length f.problem.lines → live_at t i ≡ true → live_at after i ≡ true
+    still i b e = elim (cases_Bool (live_at after i)) [
+      | inl d ↦ d
+      | inr d ↦ (let q = (h.table.lives.each i b).alive e in absurd (q.2 ((a.lives.each i b).dead d q.0 q.1)))
+    ]
+
+    made : IsAkinTable (space S F f.problem.dimension) (tuples_at S F f.problem) (f.sets ++ M ∷ []) (length f.problem.lines) (live_at after) (akin_at after)
+    made = akin_table (space S F f.problem.dimension) (tuples_at S F f.problem) (f.sets ++ M ∷ []) (length f.problem.lines) after a
+
+    table : IsAkinTable (space S F f.problem.dimension) (tuples_at S F f.problem) (f.sets ++ M ∷ []) (length f.problem.lines) (live_at t) (akin_at after)
+    table = record {
+      first_live = λ i j bi bj e. before i bi (made.first_live i j bi bj e);
+      second_live = λ i j bi bj e. before j bj (made.second_live i j bi bj e);
+      none = made.none;
+      some = λ i j bi bj u v e. made.some i j bi bj (still i bi u) (still j bj v) e;
+    }

@@ -69,7 +69,7 @@ module _ (S : Scalars) (F : IsField S) (p : ParityProblem) (labels : List ℕ) (
   pub label_in_class : (M class : List ℕ) (c : ℕ) → IsLargeClass S p labels M c class → IsProblem S p → (v : List ℕ) → IsOfLine p c v →
       IsIn S F p class v
   label_in_class M class c q P v o = subst (λ L. IsIn S F p L v) (sym q.is)
-      (line_in_class (listing (length labels)) listed c (let b = q.within in omega arith) P c q.own v o)
+      (line_in_class (listing (length labels)) listed c (omega (arith, long, q.within)) P c q.own v o)
 
   count_class : (M : List ℕ) → All (λ m. m < length p.lines) M → (c : ℕ) → count_in (has (class_list labels c)) M ≡ class_count labels c M
   count_class M w c = count_in-class (slice_index labels) (listing (length labels)) c M
@@ -113,7 +113,7 @@ module _ (S : Scalars) (F : IsField S) (f : SetFamily) (P : IsProblem S f.proble
       let J = of_label (slice_index labels) d in
       let bx : x.0 < length f.problem.lines = l.below x.0 (sub_in H all (sub_filter J all) x.0 x.1) in
       let same : slice_index labels x.0 ≡ d = of_label_only (slice_index labels) d x.0 (filter_only J all x.0 x.1) in
-      elim ((c.exact x.0 bx j b).related (sym (c.labels.each x.0 bx) ∙ same ∙ c.labels.each j b)) [
+      elim ((c.exact x.0 bx j b).related (sym (c.told.each x.0 bx) ∙ same ∙ c.told.each j b)) [
         | inl e ↦ subst (λ m. live_at t m ≡ true) e (nonzero_live S F f P k t h x.0 bx o.0 x.2 o.2)
         | inr e ↦ (turn_family S F f P k t h).table.second_live x.0 j bx b e
       ]
@@ -124,14 +124,14 @@ module _ (S : Scalars) (F : IsField S) (f : SetFamily) (P : IsProblem S f.proble
   large_nonzero M class d q b =
       let none = All-nil (IsVector S f.problem.dimension) in
       let r = lines_over S F f.problem P [] class none (independent_from_tuples S F f.problem.dimension [] none tt)
-      (large_within S F f.problem labels c.labels.long M class d q) in
+      (large_within S F f.problem labels c.told.long M class d q) in
       let o = not_null_of_rank sp line (vectors line class) (rank_over S f.problem.dimension [] (vectors_at f.problem class)) r
       (let l = q.large in omega arith) in
       let all = listing (length labels) in
       let in_class : InSpan_of sp (vectors line (class_lines (slice_index labels) all (slice_index labels d))) o.0 =
       subst (λ L. InSpan_of sp (vectors line L) o.0) (q.is ∙ ap (class_list labels) (sym q.own)) (span_member (scalar_field S F) sp (vectors line class) o.0 o.1) in
       live_nonzero S F f P k t h d b
-      (class_live all (listed S F f.problem labels c.labels.long) d b o.0 in_class o.2)
+      (class_live all (listed S F f.problem labels c.told.long) d b o.0 in_class o.2)
 
   -- a stray vector of a class, with a vector of the line of its label: the two lines aren't akin
   pub stray_separated : (H M o v u : List ℕ) (d j : ℕ) → d < length f.problem.lines → slice_index labels d ≡ d → IsNonzeroOf S f.problem d o →
@@ -153,8 +153,8 @@ module _ (S : Scalars) (F : IsField S) (f : SetFamily) (P : IsProblem S f.proble
         let all = positions (length f.problem.lines) in
         growth_of_missed S F f P k t h labels c all l d L r.0 o x.first (of_line_vector S F f.problem P d b o z.of_line)
         (of_line_vector S F f.problem P d b x.first x.of_first)
-        (line_in_class S F f.problem labels c.labels.long all l d b P d own o z.of_line)
-        (line_in_class S F f.problem labels c.labels.long all l d b P d own x.first x.of_first) r.1
+        (line_in_class S F f.problem labels c.told.long all l d b P d own o z.of_line)
+        (line_in_class S F f.problem labels c.told.long all l d b P d own x.first x.of_first) r.1
 
     pub crossed_second : (L : List ℕ) → crossing ≡ Second L → IsGrowth S F f.problem (size_of f) t L
     crossed_second L e =
@@ -163,7 +163,7 @@ module _ (S : Scalars) (F : IsField S) (f : SetFamily) (P : IsProblem S f.proble
         let all = positions (length f.problem.lines) in
         growth_of_missed S F f P k t h labels c all l (slice_index labels j) L r.0 u x.second q.parted.part
         (of_line_vector S F f.problem P j q.within x.second x.of_second) q.in_class
-        (line_in_class S F f.problem labels c.labels.long all l j q.within P (slice_index labels j) refl x.second x.of_second) r.1
+        (line_in_class S F f.problem labels c.told.long all l j q.within P (slice_index labels j) refl x.second x.of_second) r.1
 
     pub crossed_both : (L : List ℕ) → crossing ≡ Both L → IsLasting S F f.problem labels L o v M
     crossed_both L e =
@@ -175,6 +175,6 @@ module _ (S : Scalars) (F : IsField S) (f : SetFamily) (P : IsProblem S f.proble
       IsStrayVector S F f.problem labels class d o M j v u → AreOfClass S F f.problem labels o v
   stray_of_class class N M o v u d j q z s = record {
     label = d;
-    first_in = subst (λ L. IsIn S F f.problem L o) q.is (label_in_class S F f.problem labels c.labels.long N class d q P o z);
+    first_in = subst (λ L. IsIn S F f.problem L o) q.is (label_in_class S F f.problem labels c.told.long N class d q P o z);
     second_in = subst (λ L. IsIn S F f.problem L v) q.is s.in_lines;
   }

@@ -29,13 +29,13 @@ module _ {K V : Type 0} {f : Field K} (s : Space f V) (line : ℕ → V × V) wh
   pub pair_missed : (M : List ℕ) (i j : ℕ) (a b : V) → ¬ (IsFree s line M i) → ¬ (IsFree s line M j) → IsWide s line M (vectors line (i ∷ j ∷ [])) →
       In a (vectors line (i ∷ [])) → Misses s line M (a ∷ []) → In b (vectors line (j ∷ [])) → Misses s line M (b ∷ []) →
       Misses s line M (a ∷ b ∷ [])
-  pair_missed M i j a b ni nj w ai am bj bm =
-      let r = separates_of_wide s line M i j ni nj w in
-      let x = r.0 in
-      let y = r.1 in
-      let us = vectors line M ++ a ∷ b ∷ [] in
-      let kx : InSpan s us x = through s (vectors line M ++ a ∷ []) us x (search placing) (near M i a x ni ai am r.2) in
-      let ky : InSpan s us y = through s (vectors line M ++ b ∷ []) us y (search placing) (near M j b y nj bj bm r.3) in
-      let h : Within s (vectors line M ++ x ∷ y ∷ []) us = search (kx, ky, placing) in
-      same_length_independent s (vectors line M ++ x ∷ y ∷ []) us r.4 h
-      (omega (arith, length-missing line M (a ∷ b ∷ []), length-missing line M (x ∷ y ∷ [])))
+  pair_missed M i j a b ni nj w ai am bj bm = let r = separates_of_wide s line M i j ni nj w in go r.0 r.1 r.2 r.3 r.4
+    where
+      go : (x y : V) → In x (vectors line (i ∷ [])) → In y (vectors line (j ∷ [])) → Misses s line M (x ∷ y ∷ []) → Misses s line M (a ∷ b ∷ [])
+      go x y k l m =
+          let kx : InSpan s (vectors line M ++ a ∷ b ∷ []) x =
+          through s (vectors line M ++ a ∷ []) (vectors line M ++ a ∷ b ∷ []) x (search placing) (near M i a x ni ai am k) in
+          let ky : InSpan s (vectors line M ++ a ∷ b ∷ []) y =
+          through s (vectors line M ++ b ∷ []) (vectors line M ++ a ∷ b ∷ []) y (search placing) (near M j b y nj bj bm l) in
+          same_length_independent s (vectors line M ++ x ∷ y ∷ []) (vectors line M ++ a ∷ b ∷ []) m (search (kx, ky, placing))
+          (omega (arith, length-missing line M (a ∷ b ∷ []), length-missing line M (x ∷ y ∷ [])))

@@ -32,7 +32,7 @@ pub record IsTurn (S : Scalars) (F : IsField S) (f : SetFamily) (t : Separators)
 
 -- the labels of akin lines, which make classes
 pub record AreClasses (n : ℕ) (akin : ℕ → ℕ → Bool) (labels : List ℕ) : Type 0 where
-  pub labels : AreLabels n akin labels
+  pub told : AreLabels n akin labels
   pub exact : AreExact n akin
 
 -- M is an independent set of k lines that separates two akin lines, or a line is free over it
