@@ -1,10 +1,10 @@
 -- A family that grows: its problem, its size and what its sets have in common, and fewer akin pairs.
-use Rattle.std.proofs.Common.{◌≡◌, ◌≢◌, ℕ, suc, ◌<◌, ◌⊎◌, inl, inr, List, [], ◌∷◌, ◌++◌, append-nil, append_assoc, length, get_or, take, refl, sym, ap, ◌∙◌, subst, arith, All, true, false}
-use Rattle.std.specs.Prelude.{◌↔◌}
+use Rattle.std.proofs.Common.{◌≡◌, ◌≢◌, ℕ, suc, ◌<◌, ◌⊎◌, inl, inr, List, [], ◌∷◌, ◌++◌, append-nil, append_assoc, length, get_or, take, refl, sym, ap, ◌∙◌, subst, arith, All, true, false, ◌+◌, Option, None, Some}
+use Rattle.std.specs.Prelude.{◌↔◌, MatchOption}
 use Rattle.std.specs.List.{Contains}
 use Rattle.std.specs.List.Sorted.{IsStrictlyIncreasing}
 use Rattle.std.proofs.lemmas.Bool.{cases_Bool}
-use Rattle.std.proofs.lemmas.List.{get_or_append_left}
+use Rattle.std.proofs.lemmas.List.{get_or_append_left, length_push, take-append-le, take_all}
 use Rattle.std.proofs.lemmas.List.Elements.{All-nil, All-cons, All-append}
 use Rattle.vector_spaces.proofs.Members.{In-all, In-append_left, In-append_right, all-In}
 use Rattle.class_theory.proofs.AkinTables.{IsAkinTable}
@@ -114,3 +114,28 @@ fewer_pairs S F f P k t after h M g a =
       none = made.none;
       some = λ i j bi bj u v e. made.some i j bi bj (still i bi u) (still j bj v) e;
     }
+
+-- an answer at a value that may be there
+pub match_weaker : {X : Type 0} (o : Option X) {P P' : Type 0} {Q Q' : X → Type 0} → MatchOption o P Q → (P → P') → ((x : X) → Q x → Q' x) → MatchOption o P' Q'
+match_weaker None m p q = p m
+match_weaker (Some x) m p q = q x m
+
+pub taken_before : (sets : List (List ℕ)) (M : List ℕ) → take (length sets) (sets ++ M ∷ []) ≡ sets
+taken_before sets M = take-append-le (length sets) sets (M ∷ []) (omega arith) ∙ take_all (length sets) sets (omega arith)
+
+pub taken_with : (sets : List (List ℕ)) (M : List ℕ) → take (length sets + 1) (sets ++ M ∷ []) ≡ sets ++ M ∷ []
+taken_with sets M = take_all (length sets + 1) (sets ++ M ∷ []) (let l = length_push sets M in omega arith)
+
+module _ (S : Scalars) (F : IsField S) (f : SetFamily) (P : IsProblem S f.problem) (k : IsFamily S f) (t : Separators) (h : IsTurn S F f t) (M : List ℕ)
+    (g : IsGrowth S F f.problem (size_of f) t M) where
+  -- a turn of the family with the set
+  pub turn_with : (L : IsField S) (after : Separators) → IsTableOf S L f.problem (take (length f.sets + 1) (f.sets ++ M ∷ [])) after →
+      IsTurn S L (with_set f M) after
+  turn_with L after a = record {
+    none = (grown_by_set S f k h.none M g.set).no_common;
+    table = subst (λ sets. IsTableOf S L f.problem sets after) (taken_with f.sets M) a;
+  }
+
+  pub fewer_with : (after : Separators) → IsTableOf S F f.problem (take (length f.sets + 1) (f.sets ++ M ∷ [])) after →
+      pairs_below (length f.problem.lines) (akin_at after) < pairs_below (length f.problem.lines) (akin_at t)
+  fewer_with after a = fewer_pairs S F f P k t after h M g (subst (λ sets. IsTableOf S F f.problem sets after) (taken_with f.sets M) a)

@@ -20,3 +20,4 @@ pub mod TripleTies
 pub mod MissedTies
 pub mod GrowthTies
 pub mod LargeTies
+pub mod FittingSets

@@ -14,3 +14,4 @@ pub mod Lasting
 pub mod Spreads
 pub mod Missed
 pub mod Turns
+pub mod ClassLaws

@@ -17,6 +17,7 @@ mod growing;
 mod labels;
 mod large;
 mod lasting;
+mod laws;
 mod missed;
 mod outcome;
 mod pacing;
@@ -29,5 +30,6 @@ mod transit;
 mod triples;
 mod turned;
 
+pub use laws::akin_lines_form_classes;
 pub use outcome::Classes;
 pub use partitioning::partition;
