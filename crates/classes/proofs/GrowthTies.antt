@@ -139,3 +139,34 @@ module _ (S : Scalars) (F : IsField S) (f : SetFamily) (P : IsProblem S f.proble
   pub fewer_with : (after : Separators) → IsTableOf S F f.problem (take (length f.sets + 1) (f.sets ++ M ∷ [])) after →
       pairs_below (length f.problem.lines) (akin_at after) < pairs_below (length f.problem.lines) (akin_at t)
   fewer_with after a = fewer_pairs S F f P k t after h M g (subst (λ sets. IsTableOf S F f.problem sets after) (taken_with f.sets M) a)
+
+  -- what taking the set into the table finds
+  pub grown_found : (member : ℕ) → member ≡ length f.sets → (q : SetFamily) → q ≡ with_set f M → (after : Separators) (found : Option (List ℕ)) →
+      MatchOption found ((L : IsField S) → IsTableOf S L q.problem (take (member + 1) q.sets) after) (IsSetOf S q.problem (suc (size_of q))) →
+      MatchOption found (((L : IsField S) → IsTurn S L q after)
+          × (pairs_below (length f.problem.lines) (akin_at after) < pairs_below (length f.problem.lines) (akin_at t)))
+      (IsSetOf S f.problem (suc (size_of f)))
+  grown_found member e q d after found m = match_weaker found told
+      (λ a.
+        let b : (L : IsField S) → IsTableOf S L f.problem (take (length f.sets + 1) (f.sets ++ M ∷ [])) after =
+        λ L. subst (λ n. IsTableOf S L f.problem (take (n + 1) (f.sets ++ M ∷ [])) after) e (a L) in
+        ((λ L. subst (λ (w : SetFamily). IsTurn S L w after) (sym d) (turn_with L after (b L))), fewer_with after (b F)))
+      (λ L w. subst (λ n. IsSetOf S f.problem (suc n) L) (same_size S f (with_set f M) k (grown_by_set S f k h.none M g.set)) w)
+    where
+      told : MatchOption found ((L : IsField S) → IsTableOf S L f.problem (take (member + 1) (f.sets ++ M ∷ [])) after)
+          (IsSetOf S f.problem (suc (size_of (with_set f M))))
+      told = subst (λ (w : SetFamily). MatchOption found ((L : IsField S) → IsTableOf S L w.problem (take (member + 1) w.sets) after)
+          (IsSetOf S w.problem (suc (size_of w)))) d m
+
+  pub grown_before : (member : ℕ) → member ≡ length f.sets → (q : SetFamily) → q ≡ with_set f M → (L : IsField S) → IsTurn S L f t →
+      IsTableOf S L q.problem (take member q.sets) t
+  grown_before member e q d L a = subst (λ (w : SetFamily). IsTableOf S L w.problem (take member w.sets) t) (sym d)
+      (subst (λ n. IsTableOf S L f.problem (take n (f.sets ++ M ∷ [])) t) (sym e)
+      (subst (λ sets. IsTableOf S L f.problem sets t) (sym (taken_before f.sets M)) a.table))
+
+  pub grown_sizes : All (λ (N : List ℕ). length N ≡ length M) f.sets
+  grown_sizes = all-In (λ (N : List ℕ). length N ≡ length M) f.sets (λ N j.
+      In-all (λ (N : List ℕ). length N ≡ k.size) f.sets k.sizes N j ∙ size-size_of S f k ∙ sym g.set.size)
+
+  pub grown_within : (member : ℕ) → member ≡ length f.sets → (q : SetFamily) → q ≡ with_set f M → member < length q.sets
+  grown_within member e q d = subst (λ (w : SetFamily). member < length w.sets) (sym d) (let l = length_push f.sets M in omega arith)

@@ -85,7 +85,7 @@ pub fn grow<F: Field>(
             × (pairs_below (length family.old.problem.lines) (akin_at table.new) < pairs_below (length family.old.problem.lines) (akin_at table.old)))
         (IsSetOf F.scalars family.old.problem (suc (size_of family.old)))) }
 {
-    let member = family.len();
+    let (member, _lines) = (family.len(), family.problem().len());
     family.add(set)?;
     take_member(table, family, member)
 }

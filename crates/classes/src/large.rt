@@ -32,6 +32,7 @@ use std::alloc::AllocError;
 
 /// The end of the call, where a line has one in its support that isn't akin to it: circuits toward the member that
 /// separates the two.
+#[tactic(none)]
 fn split_end<F: Field>(
     family: &Family<'_, F>,
     table: &Table,
@@ -54,6 +55,7 @@ fn split_end<F: Field>(
 }
 
 /// Toward a set that misses `o`, a vector of the line of the label, and `part`, one of the class of `line`.
+#[tactic(none)]
 fn crossing_of<F: Field>(
     family: &Family<'_, F>,
     table: &Table,
@@ -84,6 +86,7 @@ fn crossing_of<F: Field>(
 }
 
 /// The last exchanges, toward a set that misses `o` and the part of `vector` in another class.
+#[tactic(none)]
 fn last_turn<F: Field>(
     family: &Family<'_, F>,
     table: &Table,
@@ -112,6 +115,7 @@ fn last_turn<F: Field>(
 }
 
 /// From a set that misses the vector `o` of the class, which is too large for it.
+#[tactic(none)]
 fn spread_turn<F: Field>(
     family: &Family<'_, F>,
     table: &Table,
@@ -147,6 +151,7 @@ fn spread_turn<F: Field>(
 }
 
 /// From the first member, for which the class is too large, to a set that misses a vector of the class, and on.
+#[tactic(none)]
 fn large_turn<F: Field>(
     family: &Family<'_, F>,
     table: &Table,
@@ -172,6 +177,7 @@ fn large_turn<F: Field>(
 }
 
 /// The turn of classes: they are parts, or one of them is too large for the first member.
+#[tactic(none)]
 pub fn class_turn<F: Field>(
     family: &Family<'_, F>,
     table: &Table,

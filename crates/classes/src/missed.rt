@@ -39,8 +39,8 @@ pub fn missed_of<F: Field>(state: &Matched<'_, F>, line: usize) -> Result<Row<F>
     let _lines = problem.len();
     let first = problem.first(line);
     match state.coordinates(first)? {
-        None => Row::copy_of(state.alloc(), first),
-        Some(_) => Row::copy_of(state.alloc(), problem.second(line)),
+        None => Ok(Row::copy_of(state.alloc(), first)?),
+        Some(_) => Ok(Row::copy_of(state.alloc(), problem.second(line))?),
     }
 }
 

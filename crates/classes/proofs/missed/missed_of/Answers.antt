@@ -37,5 +37,5 @@ returns-in-Some g c =
     c.in-Some.is c.in_ok-coordinates.ensures in
     IfOk-weaker c.copy_of-in-Some.result _ _
     (λ row r. subst (IsMissedOf S p M e) (sym r)
-    (missed_second S g.met.F.Field.lawful p P M c.set-set.ensures.independent e c.requires.within v u second first (c.in-Some.field-0, told) c.requires.some))
+    (missed_second S g.met.F.Field.lawful p P M c.set-set.ensures.independent e c.requires.within v u second first (record { coefficients = c.in-Some.field-0; combine = told }) c.requires.some))
     c.copy_of-in-Some.ensures
