@@ -1,7 +1,8 @@
 -- The family of a turn with its table, as the family that a turn of the theory finds: its members, live lines and separators.
-use Rattle.std.proofs.Common.{◌≡◌, ◌≢◌, ℕ, ◌<◌, inl, inr, List, [], ◌∷◌, ◌++◌, length, get_or, refl, sym, ap, ◌∙◌, subst, arith, Bool, true, false, ◌&&◌, Option, None, Some}
+use Rattle.std.proofs.Common.{◌≡◌, ◌≢◌, ℕ, ◌<◌, inl, inr, List, [], ◌∷◌, ◌++◌, length, map, get_or, refl, sym, ap, ◌∙◌, subst, arith, Bool, true, false, ◌&&◌, Option, None, Some}
 use Rattle.std.specs.Option.{is_none}
 use Rattle.std.proofs.lemmas.Bool.{cases_Bool, true≢false}
+use Rattle.std.proofs.lemmas.List.{length-map}
 use Rattle.std.proofs.lemmas.List.Elements.{All-nil, All-cons}
 use Rattle.vector_spaces.proofs.Members.{In, In-all, In-get_or}
 use Rattle.vector_spaces.proofs.Independence.{IsIndependent}
@@ -162,3 +163,12 @@ module _ (S : Scalars) (F : IsField S) (f : SetFamily) (P : IsProblem S f.proble
         (misses_to S F f.problem P N (a ∷ []) w (just S f.problem.dimension a va) x.missed)
         (of_line_in S F f.problem P j bj b y.of_line)
         (misses_to S F f.problem P N (b ∷ []) w (just S f.problem.dimension b vb) y.missed))
+
+-- how long the entries of a vector are, where they are told as numbers
+pub long_of : {X : Type 0} (S : Scalars) (n : X → ℕ) (xs : List X) (d : ℕ) → IsVector S d (map n xs) → length xs ≡ d
+long_of S n xs d v = sym (length-map xs n) ∙ v.length_is
+
+-- another member is as long
+pub other_set : (S : Scalars) (f : SetFamily) (k : IsFamily S f) (m o : ℕ) → m < length f.sets → o < length f.sets →
+    IsSetOf S f.problem (length (get_or f.sets o [])) (get_or f.sets m [])
+other_set S f k m o a b = record { independent = k.independent m [] a; size = k.sizes m [] a ∙ sym (k.sizes o [] b) }

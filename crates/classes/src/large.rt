@@ -32,7 +32,6 @@ use std::alloc::AllocError;
 
 /// The end of the call, where a line has one in its support that isn't akin to it: circuits toward the member that
 /// separates the two.
-#[tactic(none)]
 fn split_end<F: Field>(
     family: &Family<'_, F>,
     table: &Table,
@@ -55,7 +54,6 @@ fn split_end<F: Field>(
 }
 
 /// Toward a set that misses `o`, a vector of the line of the label, and `part`, one of the class of `line`.
-#[tactic(none)]
 fn crossing_of<F: Field>(
     family: &Family<'_, F>,
     table: &Table,
@@ -80,7 +78,8 @@ fn crossing_of<F: Field>(
     let (_members, _lines) = (family.len(), problem.len());
     let apart = family.member(separator_of(family, table, label, line));
     let state = started(alloc, problem, apart)?;
-    let (first, second) = (missed_of(&state, label)?, missed_of(&state, line)?);
+    let first = missed_of(&state, label)?;
+    let second = missed_of(&state, line)?;
     let other = family.member(member_missing(family, part)?);
     missing_both(alloc, problem, set, o, apart, first.as_slice(), second.as_slice(), other, part)
 }

@@ -19,7 +19,7 @@ use std::alloc::AllocError;
 
 /// From a member that misses a vector of the middle line, toward one that separates the others: to a set that separates
 /// the middle line and one of them.
-#[tactic(none)]
+
 pub fn triple_turn<F: Field>(
     family: &Family<'_, F>,
     table: &Table,
