@@ -11,7 +11,7 @@ use Rattle.class_theory.proofs.ClassParts.{count_in-class}
 use Rattle.class_theory.proofs.Classes.{class_lines, count_in, of_label, of_label_only}
 use Rattle.class_theory.proofs.ExactClasses.{ExactFamily, class_akin, class_below, lines_of}
 use Rattle.class_theory.proofs.Families.{FreeBelow, Grows, progress_grows}
-use Rattle.class_theory.proofs.Labels.{label}
+use Rattle.class_theory.proofs.Labels.{label, label-label, label_at_most}
 use Rattle.class_theory.proofs.LinesBelow.{IsListing}
 use Rattle.class_theory.proofs.Separations.{Progress, progress, spread}
 use Rattle.families.specs.Families.{IsFamily, SetFamily}
@@ -138,3 +138,14 @@ module _ (S : Scalars) (F : IsField S) (f : SetFamily) (P : IsProblem S f.proble
   pub growth_of_spread : (d : ℕ) (M : List ℕ) → IsSetOf S f.problem (size_of f) M → IsWideOn S F f.problem (class_list labels d) M →
       IsGrowth S F f.problem (size_of f) t M
   growth_of_spread d M q w = growth_of_wide (listing (length labels)) listing_labels d M q w
+
+-- the labels of classes are least lines
+pub least_labels : (n : ℕ) (akin : ℕ → ℕ → Bool) (labels : List ℕ) → AreClasses n akin labels → AreLeast n labels
+least_labels n akin labels c = record {
+  long = c.told.long;
+  at_most = λ i b. subst (λ m. m ≤ i) (sym (c.told.each i b)) (label_at_most akin i);
+  own = λ i b.
+      let low = label_at_most akin i in
+      let bl : label akin i < n = omega arith in
+      ap (slice_index labels) (c.told.each i b) ∙ c.told.each (label akin i) bl ∙ label-label n akin c.exact i b ∙ sym (c.told.each i b);
+}

@@ -59,7 +59,7 @@ module _ (S : Scalars) (F : IsField S) (f : SetFamily) (t : Separators) (P : IsP
       go (inr v) = inr (triple_turn (turn_family S F f P k t h) v)
 
   module _ (exact : AreExact (length f.problem.lines) (akin_at t)) (M : List ℕ) (q : IsSetOf S f.problem (size_of f) M) where
-    exact_family : ExactFamily sp line (length f.problem.lines) (size_of f)
+    abbrev exact_family : ExactFamily sp line (length f.problem.lines) (size_of f)
     exact_family = record {
       live = live_at t;
       akin = akin_at t;

@@ -23,9 +23,10 @@ use Rattle.parity_theory.proofs.Places.{free_of_independent}
 use Rattle.classes.proofs.TableLaws.{akin_table}
 use Rattle.classes.proofs.TurnTies.{nonzero_live, not_empty, size-size_of, turn_family}
 use Rattle.classes.specs.Ends.{IsSetOf}
-use Rattle.classes.specs.Partitions.{HasGrown, HasNoCommon}
+use Rattle.classes.specs.Partitions.{HasGrown, HasNoCommon, TellsClasses}
 use Rattle.classes.specs.Tables.{IsTableOf, Separators, akin_at, live_at}
 use Rattle.classes.specs.Turns.{IsGrowth, IsTurn, size_of}
+use Rattle.classes.specs.declared.outcome.Classes.{Classes}
 
 -- a set with a line that is free over it
 pub larger_by_free : (S : Scalars) (F : IsField S) (p : ParityProblem) → IsProblem S p → (M : List ℕ) → IsIndependentSet S p M → (e : ℕ) (N : List ℕ) →
@@ -170,3 +171,9 @@ module _ (S : Scalars) (F : IsField S) (f : SetFamily) (P : IsProblem S f.proble
 
   pub grown_within : (member : ℕ) → member ≡ length f.sets → (q : SetFamily) → q ≡ with_set f M → member < length q.sets
   grown_within member e q d = subst (λ (w : SetFamily). member < length w.sets) (sym d) (let l = length_push f.sets M in omega arith)
+
+-- what ends a turn of the family ends that of the family before
+pub ended_before : (S : Scalars) (f g : SetFamily) → IsFamily S f → HasGrown S f g → (classes : Classes) →
+    TellsClasses S g.problem (size_of g) classes → TellsClasses S f.problem (size_of f) classes
+ended_before S f g k h classes w = subst (λ n. TellsClasses S f.problem n classes) (same_size S f g k h)
+    (subst (λ p. TellsClasses S p (size_of g) classes) h.problem w)

@@ -21,3 +21,4 @@ pub mod MissedTies
 pub mod GrowthTies
 pub mod LargeTies
 pub mod FittingSets
+pub mod TurnedTies

@@ -20,7 +20,7 @@ use crate::lasting::last_exchanges;
 use crate::missed::{member_missing, missed_of, nonzero_of, separator_of};
 use crate::outcome::Classes;
 use crate::pacing::{Walked, reach};
-use crate::spreads::{Spread, spread_over};
+use crate::spreads::{Spread, spread_of};
 use crate::starting::started;
 use crate::table::Table;
 use crate::turned::Turned;
@@ -85,7 +85,6 @@ fn crossing_of<F: Field>(
 }
 
 /// The last exchanges, toward a set that misses `o` and the part of `vector` in another class.
-#[tactic(none)]
 fn last_turn<F: Field>(
     family: &Family<'_, F>,
     table: &Table,
@@ -106,15 +105,18 @@ fn last_turn<F: Field>(
     requires lasting { (L : IsField F.scalars) → IsLasting F.scalars L family.now.problem labels.now target.now (map F.number o.now) (map F.number vector.now) state.old.set }
     ensures { IfOk result (λ turned. (L : IsField F.scalars) → TellsTurned F.scalars L family.now.problem (size_of family.now) table.now turned) }
 {
+    let (_members, _lines) = (family.len(), family.problem().len());
     match last_exchanges(state, labels, target, o, vector)? {
         Walked::Larger(larger) => Ok(Turned::Ended(Classes::Larger(larger))),
-        Walked::Stray { line, other } => Ok(Turned::Ended(split_end(family, table, state, line, other)?)),
+        Walked::Stray { line, other } => {
+            let _set = state.set();
+            Ok(Turned::Ended(split_end(family, table, state, line, other)?))
+        }
         Walked::Arrived => Ok(Turned::Grown(state.set().copied()?)),
     }
 }
 
 /// From a set that misses the vector `o` of the class, which is too large for it.
-#[tactic(none)]
 fn spread_turn<F: Field>(
     family: &Family<'_, F>,
     table: &Table,
@@ -134,7 +136,8 @@ fn spread_turn<F: Field>(
     requires missed { Misses F.scalars family.now.problem state.old.set (map F.number o.now ∷ []) }
     ensures { IfOk result (λ turned. (L : IsField F.scalars) → TellsTurned F.scalars L family.now.problem (size_of family.now) table.now turned) }
 {
-    match spread_over(state, labels, class, label, o)? {
+    let (_members, _lines, _set) = (family.len(), family.problem().len(), state.set());
+    match spread_of(state, labels, class, label, o)? {
         Spread::Wide => Ok(Turned::Grown(state.set().copied()?)),
         Spread::Stray { line, vector, part } => {
             match crossing_of(family, table, state.set(), label, o, line, part.as_slice())? {
@@ -150,7 +153,6 @@ fn spread_turn<F: Field>(
 }
 
 /// From the first member, for which the class is too large, to a set that misses a vector of the class, and on.
-#[tactic(none)]
 fn large_turn<F: Field>(
     family: &Family<'_, F>,
     table: &Table,
@@ -170,13 +172,18 @@ fn large_turn<F: Field>(
     let mut state = started(alloc, problem, family.member(0))?;
     match reach(&mut state, labels, target, o)? {
         Walked::Larger(larger) => Ok(Turned::Ended(Classes::Larger(larger))),
-        Walked::Stray { line, other } => Ok(Turned::Ended(split_end(family, table, &mut state, line, other)?)),
-        Walked::Arrived => spread_turn(family, table, labels, label, class, o, &mut state),
+        Walked::Stray { line, other } => {
+            let _set = state.set();
+            Ok(Turned::Ended(split_end(family, table, &mut state, line, other)?))
+        }
+        Walked::Arrived => {
+            let _set = state.set();
+            spread_turn(family, table, labels, label, class, o, &mut state)
+        }
     }
 }
 
 /// The turn of classes: they are parts, or one of them is too large for the first member.
-#[tactic(none)]
 pub fn class_turn<F: Field>(
     family: &Family<'_, F>,
     table: &Table,

@@ -38,9 +38,10 @@ pub fn missed_of<F: Field>(state: &Matched<'_, F>, line: usize) -> Result<Row<F>
     let (problem, _set) = (state.problem(), state.set());
     let _lines = problem.len();
     let first = problem.first(line);
-    match state.coordinates(first)? {
-        None => Ok(Row::copy_of(state.alloc(), first)?),
-        Some(_) => Ok(Row::copy_of(state.alloc(), problem.second(line))?),
+    if state.coordinates(first)?.is_none() {
+        Row::copy_of(state.alloc(), first)
+    } else {
+        Row::copy_of(state.alloc(), problem.second(line))
     }
 }
 

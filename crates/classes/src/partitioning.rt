@@ -18,7 +18,6 @@ use field_core::Field;
 use std::alloc::AllocError;
 
 /// One turn: three lines that show that there are no classes, or the classes.
-#[tactic(none)]
 fn turn<F: Field>(family: &Family<'_, F>, table: &Table) -> Result<Turned, AllocError>
     requires { (L : IsField F.scalars) → IsTurn F.scalars L family.now table.now }
     ensures { IfOk result (λ turned. (L : IsField F.scalars) → TellsTurned F.scalars L family.now.problem (size_of family.now) table.now turned) }
@@ -32,7 +31,6 @@ fn turn<F: Field>(family: &Family<'_, F>, table: &Table) -> Result<Turned, Alloc
 
 /// Turns, up to one that ends the call. Each other one adds a member that separates two lines that none separated
 /// before.
-#[tactic(none)]
 fn turns<F: Field>(family: &mut Family<'_, F>, table: &mut Table) -> Result<Classes, AllocError>
     requires { (L : IsField F.scalars) → IsTurn F.scalars L family.old table.old }
     ensures grows { HasGrown F.scalars family.old family.new }
@@ -57,7 +55,6 @@ fn turns<F: Field>(family: &mut Family<'_, F>, table: &mut Table) -> Result<Clas
 ///
 /// Lines that no member separates are akin. Each turn ends the call or adds a member that separates two lines that
 /// were akin, so it ends.
-#[tactic(none)]
 pub fn partition<F: Field>(family: &mut Family<'_, F>) -> Result<Classes, AllocError>
     requires { HasNoCommon F.scalars family.old }
     ensures grows { HasGrown F.scalars family.old family.new }
