@@ -16,14 +16,15 @@ use Rattle.echelon.specs.Residues.{IsResidue}
 use Rattle.matching_state.proofs.Residues.{missed_alone, missed_together, not_missed_together, residue_tuple}
 use Rattle.matching_state.proofs.Ties.{span_to}
 use Rattle.parity_lines.proofs.Border.{tuples_at}
+use Rattle.parity_lines.proofs.LinePairs.{IsPair, line_at_vectors}
 use Rattle.parity_lines.specs.LineSets.{IsIndependentSet}
 use Rattle.parity_lines.specs.Problems.{ParityProblem, IsProblem, line_at, vectors_at}
 use Rattle.parity_lines.specs.Relations.{IsMonicMultiple}
 use Rattle.parity_theory.proofs.Lines.{IsFree, Misses, vectors}
 use Rattle.parity_theory.proofs.Positions.{vector_of_line}
 use Rattle.parity_theory.proofs.Widths.{IsNarrow, IsWide, two_missed, wide_not_narrow}
-use Rattle.classes.proofs.Monics.{monic_entries, multiple_multiple, of_monic, same_monics}
-use Rattle.classes.specs.Directions.{AreApart, AreDirections, IsAlong, IsDirection}
+use Rattle.classes.proofs.Monics.{monic_entries, multiple_multiple, not_zero_of_monic, of_monic, same_monics, zero_of_length}
+use Rattle.classes.specs.Directions.{AreApart, AreDirections, HaveResidues, IsAlong, IsDirection}
 use Rattle.classes.specs.declared.direction.Direction.{Direction}
 use Rattle.classes.specs.declared.direction.Direction.TheVariants.{Inside, Along}
 
@@ -84,56 +85,61 @@ module _ (S : Scalars) (F : IsField S) (p : ParityProblem) (P : IsProblem S p) (
           ∙ multiple_multiple S F c d.0 s hc d.1 (monic_entries S F a s r.vector.entries k))
           ∙ multiple_multiple S F l.factor (S.product c d.0) s l.factor_in h (monic_entries S F a s r.vector.entries k)) l k)))
 
-  module _ (e : ℕ) (pair : IsVector S p.dimension (line_at p e).0 × IsVector S p.dimension (line_at p e).1) (a b : List ℕ)
-      (r : Leaves (line_at p e).0 a) (q : Leaves (line_at p e).1 b) where
-    -- the line by what its vectors leave
-    pub direction_inside : a ≡ zero_vector S p.dimension → b ≡ zero_vector S p.dimension → Within sp (vectors line (e ∷ [])) (vectors line M)
-    direction_inside z w = within_cons sp (line e).0 ((line e).1 ∷ []) (vectors line M) (spanned_by_set (line_at p e).0 a pair.0 r z)
-        (within_cons sp (line e).1 [] (vectors line M) (spanned_by_set (line_at p e).1 b pair.1 q w) (within_nil sp (vectors line M)))
+  module _ (e : ℕ) (h : e < length p.lines) (a b : List ℕ) (t : HaveResidues S p M e a b) where
+    both : IsPair S p.dimension (line_at p e)
+    both = line_at_vectors S p e P h
 
-    pub direction_second : (s : List ℕ) → a ≡ zero_vector S p.dimension → b ≢ zero_vector S p.dimension → IsMonicMultiple S b s →
-        IsAlong S F p M e s
-    direction_second s z n k = record {
+    first_zero : a ≡ zero_vector S (length a) → InSpan_of sp (vectors line M) (line e).0
+    first_zero z = spanned_by_set (line_at p e).0 a both.0 t.first (zero_of_length S p.dimension a t.first.vector.length_is z)
+
+    second_zero : b ≡ zero_vector S (length b) → InSpan_of sp (vectors line M) (line e).1
+    second_zero z = spanned_by_set (line_at p e).1 b both.1 t.second (zero_of_length S p.dimension b t.second.vector.length_is z)
+
+    -- the line by what its vectors leave
+    pub direction_inside : a ≡ zero_vector S (length a) → b ≡ zero_vector S (length b) → Within sp (vectors line (e ∷ [])) (vectors line M)
+    direction_inside z w = within_cons sp (line e).0 ((line e).1 ∷ []) (vectors line M) (first_zero z)
+        (within_cons sp (line e).1 [] (vectors line M) (second_zero w) (within_nil sp (vectors line M)))
+
+    pub direction_second : (s : List ℕ) → a ≡ zero_vector S (length a) → IsMonicMultiple S b s → IsAlong S F p M e s
+    direction_second s z k = record {
       outer = (line_at p e).1;
       of_line = inr refl;
       residue = b;
-      is_residue = q;
-      not_zero = n;
+      is_residue = t.second;
+      not_zero = not_zero_of_monic S F p.dimension b s k;
       monic = k;
       spans = within_cons sp (line e).0 ((line e).1 ∷ []) (vectors line M ++ (line e).1 ∷ [])
-          (left_in sp (vectors line M) ((line e).1 ∷ []) (line e).0 (spanned_by_set (line_at p e).0 a pair.0 r z))
+          (left_in sp (vectors line M) ((line e).1 ∷ []) (line e).0 (first_zero z))
           (within_cons sp (line e).1 [] (vectors line M ++ (line e).1 ∷ [])
           (right_in sp (vectors line M) ((line e).1 ∷ []) (line e).1 (head_in sp (line e).1 []))
           (within_nil sp (vectors line M ++ (line e).1 ∷ [])));
     }
 
-    first_with : (s : List ℕ) → a ≢ zero_vector S p.dimension → IsMonicMultiple S a s →
-        InSpan_of sp (vectors line M ++ (line e).0 ∷ []) (line e).1 → IsAlong S F p M e s
-    first_with s n k c = record {
-      outer = (line_at p e).0;
-      of_line = inl refl;
-      residue = a;
-      is_residue = r;
-      not_zero = n;
-      monic = k;
-      spans = within_cons sp (line e).0 ((line e).1 ∷ []) (vectors line M ++ (line e).0 ∷ [])
-          (right_in sp (vectors line M) ((line e).0 ∷ []) (line e).0 (head_in sp (line e).0 []))
-          (within_cons sp (line e).1 [] (vectors line M ++ (line e).0 ∷ []) c (within_nil sp (vectors line M ++ (line e).0 ∷ [])));
-    }
+    module _ (s : List ℕ) (k : IsMonicMultiple S a s) where
+      first_left : a ≢ zero_vector S p.dimension
+      first_left = not_zero_of_monic S F p.dimension a s k
 
-    pub direction_first : (s : List ℕ) → a ≢ zero_vector S p.dimension → b ≡ zero_vector S p.dimension → IsMonicMultiple S a s →
-        IsAlong S F p M e s
-    direction_first s n z k = first_with s n k
-        (left_in sp (vectors line M) ((line e).0 ∷ []) (line e).1 (spanned_by_set (line_at p e).1 b pair.1 q z))
+      first_with : InSpan_of sp (vectors line M ++ (line e).0 ∷ []) (line e).1 → IsAlong S F p M e s
+      first_with c = record {
+        outer = (line_at p e).0;
+        of_line = inl refl;
+        residue = a;
+        is_residue = t.first;
+        not_zero = first_left;
+        monic = k;
+        spans = within_cons sp (line e).0 ((line e).1 ∷ []) (vectors line M ++ (line e).0 ∷ [])
+            (right_in sp (vectors line M) ((line e).0 ∷ []) (line e).0 (head_in sp (line e).0 []))
+            (within_cons sp (line e).1 [] (vectors line M ++ (line e).0 ∷ []) c (within_nil sp (vectors line M ++ (line e).0 ∷ [])));
+      }
 
-    pub direction_both : (s t : List ℕ) → a ≢ zero_vector S p.dimension → IsMonicMultiple S a s → IsMonicMultiple S b t → s ≡ t →
-        IsAlong S F p M e s
-    direction_both s t n k l d = first_with s n k
-        (spanned_along (line_at p e).0 (line_at p e).1 a b pair.0 pair.1 r q n s t k l d)
+      pub direction_first : b ≡ zero_vector S (length b) → IsAlong S F p M e s
+      direction_first z = first_with (left_in sp (vectors line M) ((line e).0 ∷ []) (line e).1 (second_zero z))
 
-    pub direction_free : (s t : List ℕ) → a ≢ zero_vector S p.dimension → IsMonicMultiple S a s → IsMonicMultiple S b t → s ≢ t →
-        IsFree sp line M e
-    direction_free s t n k l d = missed_apart (line_at p e).0 (line_at p e).1 a b pair.0 pair.1 r q n s t k l d
+      pub direction_both : (r : List ℕ) → IsMonicMultiple S b r → s ≡ r → IsAlong S F p M e s
+      direction_both r l d = first_with (spanned_along (line_at p e).0 (line_at p e).1 a b both.0 both.1 t.first t.second first_left s r k l d)
+
+      pub direction_free : (r : List ℕ) → IsMonicMultiple S b r → s ≢ r → IsFree sp line M e
+      direction_free r l d = missed_apart (line_at p e).0 (line_at p e).1 a b both.0 both.1 t.first t.second first_left s r k l d
 
   -- the vector of a direction is one of the line
   outer_vector : (e : ℕ) (s : List ℕ) → IsVector S p.dimension (line_at p e).0 × IsVector S p.dimension (line_at p e).1 →

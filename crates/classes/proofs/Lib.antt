@@ -22,3 +22,5 @@ pub mod GrowthTies
 pub mod LargeTies
 pub mod FittingSets
 pub mod TurnedTies
+pub mod SpreadParts
+pub mod SpreadTies

@@ -14,6 +14,11 @@ use Rattle.classes.specs.declared.direction.Direction.TheVariants.{Inside, Along
 use Rattle.classes.specs.declared.direction.Outlook.{Outlook}
 use Rattle.classes.specs.declared.direction.Outlook.TheVariants.{Free, Directions}
 
+-- a and b are the residues modulo the span of M of the two vectors of l
+pub record HaveResidues (S : Scalars) (p : ParityProblem) (M : List ℕ) (l : ℕ) (a b : List ℕ) : Type 0 where
+  pub first : IsResidue S p.dimension (vectors_at p M) (line_at p l).0 a
+  pub second : IsResidue S p.dimension (vectors_at p M) (line_at p l).1 b
+
 -- a is a monic multiple of the residue of a vector of l, with which M spans l
 pub record IsAlong (S : Scalars) (F : IsField S) (p : ParityProblem) (M : List ℕ) (l : ℕ) (a : List ℕ) : Type 0 where
   pub outer : List ℕ

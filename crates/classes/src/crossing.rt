@@ -49,14 +49,14 @@ pub fn missing_both<F: Field>(
     requires other_missed { Misses F.scalars problem.now other.now (map F.number u.now ∷ []) }
     ensures { IfOk result (TellsCrossing F.scalars problem.now (length set.now) (map F.number o.now) (map F.number a.now) (map F.number u.now) (map F.number b.now)) }
 {
-    let target = match transit(alloc, problem, set, o, apart, a)? {
-        Shared::Larger(larger) => return Ok(Crossing::Larger(larger)),
-        Shared::First(first) => return Ok(Crossing::First(first)),
-        Shared::Second(second) => second,
-    };
-    match transit(alloc, problem, other, u, &target, o)? {
+    let _lines = problem.len();
+    match transit(alloc, problem, set, o, apart, a)? {
         Shared::Larger(larger) => Ok(Crossing::Larger(larger)),
-        Shared::First(both) => Ok(Crossing::Both(both)),
-        Shared::Second(second) => Ok(Crossing::Second(second)),
+        Shared::First(first) => Ok(Crossing::First(first)),
+        Shared::Second(target) => match transit(alloc, problem, other, u, &target, o)? {
+            Shared::Larger(larger) => Ok(Crossing::Larger(larger)),
+            Shared::First(both) => Ok(Crossing::Both(both)),
+            Shared::Second(second) => Ok(Crossing::Second(second)),
+        },
     }
 }

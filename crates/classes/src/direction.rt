@@ -7,7 +7,7 @@ ghost use Rattle.linear_algebra.proofs.Coordinates.{space};
 ghost use Rattle.parity_lines.specs.Relations.{IsMonicMultiple};
 ghost use Rattle.parity_lines.proofs.Border.{tuples_at};
 ghost use Rattle.parity_theory.proofs.Lines.{IsFree};
-ghost use Rattle.classes.specs.Directions.{AreApart, IsDirection, TellsOutlook};
+ghost use Rattle.classes.specs.Directions.{AreApart, HaveResidues, IsDirection, TellsOutlook};
 
 use echelon::first_nonzero;
 use field_core::{Field, Row};
@@ -61,6 +61,20 @@ fn are_same<F: Field>(v: &[F], w: &[F]) -> bool
     true
 }
 
+/// The residues of both vectors of a line.
+fn residues_of<F: Field>(
+    state: &Matched<'_, F>,
+    line: usize,
+) -> Result<(Row<F>, Row<F>), AllocError>
+    requires { line < length state.now.problem.lines }
+    ensures { IfOk result (λ rows. HaveResidues F.scalars state.now.problem state.now.set line rows.0 rows.1) }
+{
+    let problem = state.problem();
+    let first = state.residue(problem.first(line))?;
+    let second = state.residue(problem.second(line))?;
+    Ok((first, second))
+}
+
 /// The direction of a line. `None` says that it is free.
 fn direction_of<F: Field>(
     state: &Matched<'_, F>,
@@ -73,8 +87,9 @@ fn direction_of<F: Field>(
 {
     let (problem, _set) = (state.problem(), state.set());
     let _lines = problem.len();
-    let first = monic(state.residue(problem.first(line))?);
-    let second = monic(state.residue(problem.second(line))?);
+    let (first_residue, second_residue) = residues_of(state, line)?;
+    let first = monic(first_residue);
+    let second = monic(second_residue);
     match first {
         None => match second {
             None => Ok(Some(Direction::Inside)),

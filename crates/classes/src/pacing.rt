@@ -1,6 +1,6 @@
 //! Steps toward a target from sets whose supports stay in their classes, and the walk to a set that misses a vector.
 
-ghost use Rattle.std.specs.Prelude.{◌≡◌, ◌<◌, [], ◌∷◌, All, IfOk, length, map};
+ghost use Rattle.std.specs.Prelude.{◌≡◌, ◌<◌, [], ◌∷◌, All, IfOk, OnErr, length, map};
 ghost use Rattle.classes.specs.Ends.{IsSetOf};
 ghost use Rattle.classes.specs.Pacing.{KeepsCounts, TellsPace, TellsWalk};
 ghost use Rattle.exchanges.specs.Exchanges.{StillMisses};
@@ -37,7 +37,7 @@ pub enum Walked {
     Arrived,
 }
 
-/// A step toward the target, where each support stays in its class.
+/// A step toward the target, where each support stays in its class. After want of memory the state is unchanged.
 pub fn step_in_parts<F: Field>(
     state: &mut Matched<'_, F>,
     labels: &[usize],
@@ -51,6 +51,7 @@ pub fn step_in_parts<F: Field>(
     ensures problem { state.new.problem ≡ state.old.problem }
     ensures kept { StillMisses F.scalars state.old.problem keep.now.rows state.old.set state.new.set }
     ensures pace { IfOk result (TellsPace F.scalars state.old.problem labels.now keep.now.rows target.now state.old.set state.new.set) }
+    ensures err { OnErr result (state.new ≡ state.old) }
 {
     let _set = state.set();
     if let Some((line, other)) = stray_support(state, labels)? {

@@ -37,18 +37,16 @@ pub fn alone<F: Field>(alloc: Global, v: &[F]) -> Result<Rows<F>, AllocError>
 
 /// The basis that took the vectors of the set, and then one that the set misses.
 pub fn basis_with<F: Field>(
-    alloc: Global,
-    problem: &Problem<F>,
-    set: &LineSet,
+    state: &Matched<'_, F>,
     q: &[F],
 ) -> Result<Echelon<F>, AllocError>
-    requires independent { IsIndependentSet F.scalars problem.now set.now }
-    requires long { length q.now ≡ problem.now.dimension }
-    requires missed { Misses F.scalars problem.now set.now (map F.number q.now ∷ []) }
-    ensures { IfOk result (λ basis. basis ≡ record { width = problem.now.dimension; rows = vectors_at problem.now set.now ++ map F.number q.now ∷ [] }) }
+    requires long { length q.now ≡ state.now.problem.dimension }
+    requires missed { Misses F.scalars state.now.problem state.now.set (map F.number q.now ∷ []) }
+    ensures { IfOk result (λ basis. basis ≡ record { width = state.now.problem.dimension; rows = vectors_at state.now.problem state.now.set ++ map F.number q.now ∷ [] }) }
 {
+    let (problem, set) = (state.problem(), state.set());
     let _lines = problem.len();
-    match basis_of_lines(alloc, problem, set)? {
+    match basis_of_lines(state.alloc(), problem, set)? {
         LineBasis::Basis(mut basis) => match basis.insert(q)? {
             Inserted::New => Ok(basis),
             Inserted::Old(_) => unreachable!(),

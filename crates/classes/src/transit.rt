@@ -9,6 +9,7 @@ ghost use Rattle.parity_lines.specs.LineSets.{IsIndependentSet};
 use crate::starting::{alone, basis_with, started};
 use exchanges::{Moved, move_toward};
 use field_core::Field;
+use matching_state::Matched;
 use parity_lines::{LineSet, Problem};
 use std::alloc::{AllocError, Global};
 
@@ -21,6 +22,35 @@ pub enum Shared {
     First(LineSet),
     /// A set that misses it with the second.
     Second(LineSet),
+}
+
+/// From the state of a set that misses `q`, as `transit` does.
+fn shared_by<F: Field>(
+    state: &mut Matched<'_, F>,
+    q: &[F],
+    target: &LineSet,
+    first: &[F],
+) -> Result<Shared, AllocError>
+    requires long { length q.now ≡ state.old.problem.dimension }
+    requires missed { Misses F.scalars state.old.problem state.old.set (map F.number q.now ∷ []) }
+    requires target { IsSetOf F.scalars state.old.problem (length state.old.set) target.now }
+    requires first_long { length first.now ≡ state.old.problem.dimension }
+    ensures { IfOk result (TellsShared F.scalars state.old.problem (length state.old.set) (map F.number q.now) target.now (map F.number first.now)) }
+{
+    let (problem, _set) = (state.problem(), state.set());
+    let _lines = problem.len();
+    let keep = alone(state.alloc(), q)?;
+    match move_toward(state, target, &keep)? {
+        Moved::Larger(larger) => Ok(Shared::Larger(larger)),
+        Moved::Settled => {
+            let basis = basis_with(state, q)?;
+            let moved = state.set().copied()?;
+            match basis.coefficients(first)? {
+                None => Ok(Shared::First(moved)),
+                Some(_) => Ok(Shared::Second(moved)),
+            }
+        }
+    }
 }
 
 /// From a set that misses `q` toward one that misses `first` together with others: to a set that misses `q` with
@@ -40,18 +70,6 @@ pub fn transit<F: Field>(
     requires first_long { length first.now ≡ problem.now.dimension }
     ensures { IfOk result (TellsShared F.scalars problem.now (length set.now) (map F.number q.now) target.now (map F.number first.now)) }
 {
-    let _lines = problem.len();
-    let keep = alone(alloc, q)?;
     let mut state = started(alloc, problem, set)?;
-    match move_toward(&mut state, target, &keep)? {
-        Moved::Larger(larger) => Ok(Shared::Larger(larger)),
-        Moved::Settled => {
-            let moved = state.set().copied()?;
-            let basis = basis_with(alloc, problem, &moved, q)?;
-            match basis.coefficients(first)? {
-                None => Ok(Shared::First(moved)),
-                Some(_) => Ok(Shared::Second(moved)),
-            }
-        }
-    }
+    shared_by(&mut state, q, target, first)
 }
