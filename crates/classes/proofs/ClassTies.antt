@@ -40,14 +40,11 @@ use Rattle.classes.specs.Turns.{AreClasses, AreOfClass, IsGrowth, IsSplit, IsTur
 -- tests that agree on a list leave the same of it
 pub filter_same : (J K : ℕ → Bool) (xs : List ℕ) → ((x : ℕ) → In x xs → J x ≡ K x) → filter J xs ≡ filter K xs
 filter_same J K [] h = refl
-filter_same J K (x ∷ xs) h = go (cases_Bool (K x))
+filter_same J K (x ∷ xs) h = go (cases_Bool (K x)) (filter_same J K xs (λ y i. h y (inr i)))
   where
-    rest : filter J xs ≡ filter K xs
-    rest = filter_same J K xs (λ y i. h y (inr i))
-
-    go : (K x ≡ true) ⊎ (K x ≡ false) → filter J (x ∷ xs) ≡ filter K (x ∷ xs)
-    go (inl e) = filter-yes J x xs (h x (inl refl) ∙ e) ∙ ap (λ ys. x ∷ ys) rest ∙ sym (filter-yes K x xs e)
-    go (inr e) = filter-no J x xs (h x (inl refl) ∙ e) ∙ rest ∙ sym (filter-no K x xs e)
+    go : (K x ≡ true) ⊎ (K x ≡ false) → filter J xs ≡ filter K xs → filter J (x ∷ xs) ≡ filter K (x ∷ xs)
+    go (inl e) rest = filter-yes J x xs (h x (inl refl) ∙ e) ∙ ap (λ ys. x ∷ ys) rest ∙ sym (filter-yes K x xs e)
+    go (inr e) rest = filter-no J x xs (h x (inl refl) ∙ e) ∙ rest ∙ sym (filter-no K x xs e)
 
 -- an exposed line with one of its support that isn't akin to it: both are live
 module _ (S : Scalars) (F : IsField S) (f : SetFamily) (P : IsProblem S f.problem) (k : IsFamily S f) (t : Separators) (h : IsTurn S F f t)

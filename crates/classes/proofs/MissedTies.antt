@@ -1,7 +1,6 @@
 -- Vectors of lines that aren't zero or are missed, members that miss a vector, and the separators that a table tells.
 use Rattle.std.proofs.Common.{◌≡◌, ◌≢◌, ℕ, ◌<◌, inl, inr, List, [], ◌∷◌, ◌++◌, length, get_or, refl, sym, ◌∙◌, subst, Bool, true, false, ◌&&◌, Option, None, Some}
 use Rattle.std.specs.Option.{is_none}
-use Rattle.std.specs.Prelude.{MatchOption}
 use Rattle.std.proofs.lemmas.Bool.{true≢false}
 use Rattle.families.specs.Families.{IsFamily, IsFirstMissing, SetFamily}
 use Rattle.linear_algebra.specs.Scalars.{Scalars, IsField}
@@ -16,15 +15,6 @@ use Rattle.parity_lines.specs.LineSets.{IsIndependentSet}
 use Rattle.parity_lines.specs.Problems.{ParityProblem, IsProblem, line_at, vectors_at}
 use Rattle.classes.specs.Missed.{AreSeparated, IsMissedOf, IsMissing, IsNonzeroOf, IsSeparator}
 use Rattle.classes.specs.Tables.{IsTableOf, Separators, TellsSeparator, akin_at, live_at, separator_at}
-
--- what is told where there is no value, and where there is one
-pub told_none : {X P : Type 0} {Q : X → Type 0} (o : Option X) → is_none o ≡ true → MatchOption o P Q → P
-told_none None e m = m
-told_none (Some x) e m = absurd (true≢false (sym e))
-
-pub told_some : {X P : Type 0} {Q : X → Type 0} (o : Option X) → is_none o ≡ false → MatchOption o P Q → (x : X) × Q x
-told_some None e m = absurd (true≢false e)
-told_some (Some x) e m = (x, m)
 
 module _ (S : Scalars) (p : ParityProblem) (l : ℕ) where
   pub nonzero_first : (v : List ℕ) → v ≡ (line_at p l).0 → v ≢ zero_vector S p.dimension → IsNonzeroOf S p l v

@@ -71,7 +71,7 @@ module _ (S : Scalars) (F : IsField S) (f : SetFamily) (P : IsProblem S f.proble
     apart_misses : Misses S f.problem (get_or f.sets m []) (a ∷ last.0 ∷ [])
     apart_misses = separator_both S F f P k t h l.first l.last m v.first_in v.last_in s a last.0 w last.1
 
-    start : TripleStart sp line f.sets l.first l.middle l.last
+    abbrev start : TripleStart sp line f.sets l.first l.middle l.last
     start = record {
       apart = get_or f.sets m [];
       apart_in = In-get_or f.sets m [] s.within;

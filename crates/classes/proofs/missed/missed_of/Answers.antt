@@ -2,7 +2,8 @@ use Rattle.std.proofs.Common.{◌≡◌, List, ℕ, map, sym, ap, ◌∙◌, sub
 use Rattle.std.proofs.lemmas.Result.{IfOk-weaker}
 use Rattle.linear_algebra.specs.Spans.{InSpan}
 use Rattle.parity_lines.specs.Problems.{ParityProblem, IsProblem, line_at, vectors_at}
-use Rattle.classes.proofs.MissedTies.{missed_first, missed_second, told_none, told_some}
+use Rattle.classes.proofs.MissedTies.{missed_first, missed_second}
+use Rattle.classes.proofs.PacedTies.{found_inside, found_outside}
 use Rattle.classes.specs.Missed.{IsMissedOf}
 use Rattle.classes.proofs.missed.missed_of.Goals as goal
 
@@ -15,7 +16,7 @@ returns-then-is_none g c =
     let P = subst (IsProblem S) c.problem-problem.ensures c.len-lines.ensures.problem in
     let v = map g.F.Field.number c.first-first.result.now in
     let is : v ≡ (line_at p e).0 = c.first-first.ensures.value ∙ ap (λ (q : ParityProblem). (line_at q e).0) c.problem-problem.ensures in
-    let told = told_none c.in_ok-coordinates.field-0 (sym c.is_none.ensures ∙ c.if-is_none.true) c.in_ok-coordinates.ensures in
+    let told = found_outside S p.dimension (vectors_at p M) v c.in_ok-coordinates.field-0 c.if-is_none.ensures c.in_ok-coordinates.ensures in
     IfOk-weaker c.copy_of.result _ _
     (λ row r. subst (IsMissedOf S p M e) (sym r)
     (missed_first S g.met.F.Field.lawful p P M c.set-set.ensures.independent e c.requires.within v is told)) c.copy_of.ensures
@@ -31,8 +32,8 @@ returns-else-is_none g c =
     let v = map g.F.Field.number c.second.result.now in
     let first : u ≡ (line_at p e).0 = c.first-first.ensures.value ∙ ap (λ (q : ParityProblem). (line_at q e).0) c.problem-problem.ensures in
     let second : v ≡ (line_at p e).1 = c.second.ensures.value ∙ ap (λ (q : ParityProblem). (line_at q e).1) c.problem-problem.ensures in
-    let told = told_some c.in_ok-coordinates.field-0 (sym c.is_none.ensures ∙ c.if-is_none.false) c.in_ok-coordinates.ensures in
+    let told = found_inside S p.dimension (vectors_at p M) u c.in_ok-coordinates.field-0 c.if-is_none.ensures c.in_ok-coordinates.ensures in
     IfOk-weaker c.copy_of-else-is_none.result _ _
     (λ row r. subst (IsMissedOf S p M e) (sym r)
-    (missed_second S g.met.F.Field.lawful p P M c.set-set.ensures.independent e c.requires.within v u second first (record { coefficients = told.0; combine = told.1 }) c.requires.some))
+    (missed_second S g.met.F.Field.lawful p P M c.set-set.ensures.independent e c.requires.within v u second first told c.requires.some))
     c.copy_of-else-is_none.ensures
