@@ -13,5 +13,14 @@ pub mod TransitTies
 pub mod PacedTies
 pub mod CrossingTies
 pub mod LastTies
+pub mod PairsApart
+pub mod TurnTies
+pub mod ClassTies
+pub mod TripleTies
+pub mod MissedTies
+pub mod GrowthTies
+pub mod LargeTies
+pub mod FittingSets
+pub mod TurnedTies
 pub mod SpreadParts
 pub mod SpreadTies

@@ -12,3 +12,6 @@ pub mod Crossings
 pub mod Parted
 pub mod Lasting
 pub mod Spreads
+pub mod Missed
+pub mod Turns
+pub mod ClassLaws
