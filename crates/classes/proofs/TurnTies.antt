@@ -18,7 +18,7 @@ use Rattle.linear_algebra.proofs.Elements.{Element, scalar_field}
 use Rattle.linear_algebra.proofs.VectorLaws.{tuple-zero}
 use Rattle.matching_state.specs.Missing.{Misses}
 use Rattle.matching_state.specs.Overlaps.{InSupport}
-use Rattle.matching_state.specs.Places.{IsExposed}
+use Rattle.matching_state.specs.LinePlaces.{IsExposed}
 use Rattle.matching_state.proofs.OneStep.{tuples_independent}
 use Rattle.matching_state.proofs.Ties.{component_in_support, coordinates_vector, misses_from, misses_to, pairs, ranks_exposed, tuple_not_null}
 use Rattle.parity_lines.proofs.Border.{tuples_at}

@@ -6,7 +6,7 @@ use Rattle.families.specs.Families.{SetFamily}
 use Rattle.linear_algebra.specs.Scalars.{Scalars, IsField}
 use Rattle.linear_algebra.proofs.Coordinates.{space}
 use Rattle.matching_state.specs.Overlaps.{InSupport}
-use Rattle.matching_state.specs.Places.{IsExposed}
+use Rattle.matching_state.specs.LinePlaces.{IsExposed}
 use Rattle.parity_lines.proofs.Border.{tuples_at}
 use Rattle.parity_lines.specs.Problems.{ParityProblem}
 use Rattle.classes.specs.ClassLabels.{AreLabels}

@@ -1,7 +1,7 @@
 use Rattle.std.proofs.Common.{◌<◌, MatchOption, subst, sym}
 use Rattle.classes.specs.Supports.{HasSupport}
 use Rattle.classes.proofs.SupportTies.{stray_told, support_within}
-use Rattle.matching_state.specs.Places.{IsExposed}
+use Rattle.matching_state.specs.LinePlaces.{IsExposed}
 use Rattle.classes.proofs.supports.stray_of.Goals as goal
 
 pub first_apart-requires : goal.first_apart-requires

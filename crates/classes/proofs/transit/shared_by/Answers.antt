@@ -5,7 +5,7 @@ use Rattle.classes.specs.declared.transit.Shared.TheVariants.{First, Second}
 use Rattle.classes.proofs.TransitTies.{shared_told}
 use Rattle.classes.proofs.transit.shared_by.Goals as goal
 use Rattle.classes.proofs.transit.shared_by.Goals.{in-None, in-Some}
-use Rattle.exchanges.specs.Steps.{TellsMoved}
+use Rattle.exchanges.specs.StepsToward.{TellsMoved}
 use Rattle.field_core.proofs.Values.{vector_of_values}
 use Rattle.parity_lines.specs.Problems.{IsProblem}
 
