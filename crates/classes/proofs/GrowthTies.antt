@@ -145,13 +145,13 @@ module _ (S : Scalars) (F : IsField S) (f : SetFamily) (P : IsProblem S f.proble
   pub grown_found : (member : ℕ) → member ≡ length f.sets → (q : SetFamily) → q ≡ with_set f M → (after : Separators) (found : Option (List ℕ)) →
       MatchOption found ((L : IsField S) → IsTableOf S L q.problem (take (member + 1) q.sets) after) (IsSetOf S q.problem (suc (size_of q))) →
       MatchOption found (((L : IsField S) → IsTurn S L q after)
-          × (pairs_below (length f.problem.lines) (akin_at after) < pairs_below (length f.problem.lines) (akin_at t)))
+      × (pairs_below (length f.problem.lines) (akin_at after) < pairs_below (length f.problem.lines) (akin_at t)))
       (IsSetOf S f.problem (suc (size_of f)))
   grown_found member e q d after found m = match_weaker found told
       (λ a.
-        let b : (L : IsField S) → IsTableOf S L f.problem (take (length f.sets + 1) (f.sets ++ M ∷ [])) after =
-        λ L. subst (λ n. IsTableOf S L f.problem (take (n + 1) (f.sets ++ M ∷ [])) after) e (a L) in
-        ((λ L. subst (λ (w : SetFamily). IsTurn S L w after) (sym d) (turn_with L after (b L))), fewer_with after (b F)))
+      let b : (L : IsField S) → IsTableOf S L f.problem (take (length f.sets + 1) (f.sets ++ M ∷ [])) after =
+      λ L. subst (λ n. IsTableOf S L f.problem (take (n + 1) (f.sets ++ M ∷ [])) after) e (a L) in
+      ((λ L. subst (λ (w : SetFamily). IsTurn S L w after) (sym d) (turn_with L after (b L))), fewer_with after (b F)))
       (λ L w. subst (λ n. IsSetOf S f.problem (suc n) L) (same_size S f (with_set f M) k (grown_by_set S f k h.none M g.set)) w)
     where
       told : MatchOption found ((L : IsField S) → IsTableOf S L f.problem (take (member + 1) (f.sets ++ M ∷ [])) after)

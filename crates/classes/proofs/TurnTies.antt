@@ -74,12 +74,14 @@ module _ (S : Scalars) (F : IsField S) (p : ParityProblem) (P : IsProblem S p) (
   pub missed_list : (M : List ℕ) (x : Tuple (Element S) p.dimension) → IsIndependentSet S p M → In x (vectors (tuples_at S F p) (i ∷ [])) →
       IsIndependent (space S F p.dimension) (vectors (tuples_at S F p) M ++ x ∷ []) → (v : List ℕ) × IsMissedOf S p M i v
   missed_list M x s j m =
-      let r = of_line_list x j in
-      (r.0, record {
-        of_line = r.1;
-        missed = misses_from S F p P M (r.0 ∷ []) s.line_set.within (just S p.dimension r.0 (of_line_vector r.0 r.1))
-            (subst (λ y. IsIndependent (space S F p.dimension) (vectors (tuples_at S F p) M ++ y ∷ [])) (sym r.2) m);
-      })
+      let r = of_line_list x j in (
+        r.0,
+        record {
+          of_line = r.1;
+          missed = misses_from S F p P M (r.0 ∷ []) s.line_set.within (just S p.dimension r.0 (of_line_vector r.0 r.1))
+              (subst (λ y. IsIndependent (space S F p.dimension) (vectors (tuples_at S F p) M ++ y ∷ [])) (sym r.2) m);
+        },
+      )
 
 module _ (S : Scalars) (F : IsField S) (f : SetFamily) (P : IsProblem S f.problem) (k : IsFamily S f) (t : Separators) (h : IsTurn S F f t) where
   abbrev sp : Space (scalar_field S F) (Tuple (Element S) f.problem.dimension)
@@ -102,11 +104,13 @@ module _ (S : Scalars) (F : IsField S) (f : SetFamily) (P : IsProblem S f.proble
   pub live_nonzero : (i : ℕ) → i < length f.problem.lines → live_at t i ≡ true → (v : List ℕ) × IsNonzeroOf S f.problem i v
   live_nonzero i b e =
       let q = turn_family.alive i b e in
-      let r = of_line_list S F f.problem P i b q.0 q.1 in
-      (r.0, record {
-        of_line = r.1;
-        not_zero = λ z. q.2 (sym r.2 ∙ ap (tuple S F f.problem.dimension) z ∙ tuple-zero S F f.problem.dimension);
-      })
+      let r = of_line_list S F f.problem P i b q.0 q.1 in (
+        r.0,
+        record {
+          of_line = r.1;
+          not_zero = λ z. q.2 (sym r.2 ∙ ap (tuple S F f.problem.dimension) z ∙ tuple-zero S F f.problem.dimension);
+        },
+      )
 
   pub of_nonzero_live : (i : ℕ) → i < length f.problem.lines → (v : List ℕ) → IsNonzeroOf S f.problem i v → live_at t i ≡ true
   of_nonzero_live i b v q = nonzero_live i b (tuple S F f.problem.dimension v) (of_line_in S F f.problem P i b v q.of_line)

@@ -82,7 +82,7 @@ pub fn grow<F: Field>(
     ensures grows { HasGrown F.scalars family.old family.new }
     ensures found { IfOk result (λ found. MatchOption found
         (((L : IsField F.scalars) → IsTurn F.scalars L family.new table.new)
-            × (pairs_below (length family.old.problem.lines) (akin_at table.new) < pairs_below (length family.old.problem.lines) (akin_at table.old)))
+        × (pairs_below (length family.old.problem.lines) (akin_at table.new) < pairs_below (length family.old.problem.lines) (akin_at table.old)))
         (IsSetOf F.scalars family.old.problem (suc (size_of family.old)))) }
 {
     let (member, _lines) = (family.len(), family.problem().len());

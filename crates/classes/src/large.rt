@@ -49,7 +49,11 @@ fn split_end<F: Field>(
     let target = family.member(separator_of(family, table, line, other));
     match circuits(state, target, line)? {
         Ended::Larger(larger) => Ok(Classes::Larger(larger)),
-        Ended::Overlapping { set, first, second } => Ok(Classes::Overlapping { set, first, second }),
+        Ended::Overlapping { set, first, second } => Ok(Classes::Overlapping {
+            set,
+            first,
+            second,
+        }),
     }
 }
 
@@ -81,7 +85,17 @@ fn crossing_of<F: Field>(
     let first = missed_of(&state, label)?;
     let second = missed_of(&state, line)?;
     let other = family.member(member_missing(family, part)?);
-    missing_both(alloc, problem, set, o, apart, first.as_slice(), second.as_slice(), other, part)
+    missing_both(
+        alloc,
+        problem,
+        set,
+        o,
+        apart,
+        first.as_slice(),
+        second.as_slice(),
+        other,
+        part,
+    )
 }
 
 /// The last exchanges, toward a set that misses `o` and the part of `vector` in another class.

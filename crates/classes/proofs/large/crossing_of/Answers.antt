@@ -292,4 +292,3 @@ returns g c =
           (subst (λ (p : ParityProblem). TellsCrossing S p (length c.args.set.now) u x v y d) c.problem-problem.ensures told)));
     })
     c.missing_both.ensures
-

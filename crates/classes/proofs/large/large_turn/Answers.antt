@@ -492,4 +492,3 @@ spread_turn-requires-clause-missed g c =
     let same : s.problem ≡ f.problem = ap (λ (y : Chosen). y.problem) is in
     let size : length s.set ≡ size_of f = ap (λ (y : Chosen). length y.set) is in
     walked_arrived S s.problem f.problem same labels (length s.set) (size_of f) size N rest w told c.in-Arrived.is
-

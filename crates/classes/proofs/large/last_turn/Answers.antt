@@ -132,4 +132,3 @@ returns-in_ok-copied-in-Arrived g c L =
     (growth_of_class S L f P k t (c.requires.turn L) labels c.requires.classes N
     (record { independent = iN; size = c.in_ok-larger.ensures.as_long ∙ c.requires.size }) o v vo vv (c.requires.of_class L)
     (walked_arrived S p f.problem c.requires.problem labels (length M) (size_of f) c.requires.size N rest w told c.in-Arrived.is))
-

@@ -144,4 +144,3 @@ returns-in-Overlapping g c =
     let told : TellsEnd S f.problem (size_of f) end = subst (λ n. TellsEnd S f.problem n end) c.requires.size
     (subst (λ (p : ParityProblem). TellsEnd S p (length M) end) c.requires.problem c.in_ok-larger.ensures.end) in
     subst (TellsEnd S f.problem (size_of f)) c.in-Overlapping.is told
-

@@ -509,4 +509,3 @@ last_turn-requires-clause-lasting g c L =
     let crossed : IsCrossing S f.problem (size_of f) d j o u x =
     subst (λ y. IsCrossing S f.problem (size_of f) d j o y x) c.as_slice.ensures.value c.in_ok-larger.ensures in
     subst (λ y. IsLasting S L f.problem labels c.in-Both.target o y M) (sym c.as_slice-in-Both.ensures.value) (crossed_both S L f P k t (c.requires.turn L) labels c.requires.classes class M o v u d j b q.own z (stray L) x crossed c.in-Both.target c.in-Both.is)
-

@@ -8,4 +8,3 @@ unreachable-requires g c = separator_is_some c.args.table.now c.args.first c.arg
 pub returns : goal.returns
 returns g c L = separator_told g.F.Field.scalars L c.args.family.now c.args.table.now (c.requires.table L) c.args.first c.args.second
     c.requires.first_within c.requires.second_within c.in-Some.member (sym c.separator.ensures ∙ c.in-Some.is)
-

@@ -315,4 +315,3 @@ returns g c L =
     let shared = subst (TellsShared S f.problem (length (get_or f.sets o [])) x (get_or f.sets m []) a) c.in-Second.is told in
     triple_second S L f P k t (c.requires.turn L) l v m o a x (c.separator_of.ensures L) w z r c.in-Second.set
     (subst (λ n. IsSetOf S f.problem n c.in-Second.set) size shared.0) shared.2
-
