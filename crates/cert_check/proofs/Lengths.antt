@@ -1,8 +1,10 @@
 -- Parts that share no position have no more positions than there are.
-use Rattle.std.proofs.Common.{◌≡◌, ℕ, zero, suc, ◌+◌, ◌<◌, ◌≤◌, ◌⊎◌, inl, inr, List, [], ◌∷◌, length, get_or, true, false, cond, eqb, refl, sym, ap, ◌∙◌, subst, arith, add-one, zero-add, All}
+use Rattle.std.proofs.Common.{◌≡◌, ℕ, zero, suc, ◌+◌, ◌<◌, ◌≤◌, ◌⊎◌, inl, inr, List, [], ◌∷◌, length, get_or, true, false, cond, eqb}
+use Rattle.std.proofs.Common.{refl, sym, ap, ◌∙◌, subst, arith, add-one, zero-add, All}
 use Rattle.std.specs.Prelude.{sum_by}
 use Rattle.std.specs.List.{list_any}
 use Rattle.std.specs.List.Sorted.{IsStrictlyIncreasing}
+use Rattle.std.proofs.lemmas.Bool.{eq-eqb, ne_eqb}
 use Rattle.std.proofs.lemmas.Bool.Decides.{eqb_tells}
 use Rattle.std.proofs.lemmas.List.Elements.{All-head, All-tail}
 use Rattle.std.proofs.lemmas.List.Folds.{list_any_none}
@@ -10,7 +12,6 @@ use Rattle.std.proofs.lemmas.List.Kept.{AllPairs-from_increasing}
 use Rattle.std.proofs.lemmas.List.Sums.{sum_by-cons}
 use Rattle.parity_lines.specs.Certificates.{parts_with}
 use Rattle.cert_check.specs.Counts.{once_in}
-use Rattle.cert_check.proofs.Counting.{eqb_refl, eqb_apart}
 
 -- the sum of f at the numbers below n
 abbrev total : (ℕ → ℕ) → ℕ → ℕ
@@ -38,7 +39,8 @@ module _ (a : ℕ) (part : List ℕ) (s : IsStrictlyIncreasing (a ∷ part)) whe
   behind_head k d = ap (λ n. get_or (a ∷ part) n d) (add-one k)
 
   increasing_tail : IsStrictlyIncreasing part
-  increasing_tail k l = subst (λ x. x < get_or part (k + 1) 0) (behind_head k 0) (subst (λ y. get_or (a ∷ part) (k + 1) 0 < y) (behind_head (k + 1) 0) (s (k + 1) (omega arith)))
+  increasing_tail k l = subst (λ x. x < get_or part (k + 1) 0) (behind_head k 0)
+      (subst (λ y. get_or (a ∷ part) (k + 1) 0 < y) (behind_head (k + 1) 0) (s (k + 1) (omega arith)))
 
   -- the first stands there once
   once_head : (m : ℕ) → once_in (a ∷ part) m ≡ cond (eqb a m) 1 0 + once_in part m
@@ -46,7 +48,8 @@ module _ (a : ℕ) (part : List ℕ) (s : IsStrictlyIncreasing (a ∷ part)) whe
     where
       go : ((eqb a m ≡ true) × (a ≡ m)) ⊎ ((eqb a m ≡ false) × (a ≡ m → ⊥)) → once_in (a ∷ part) m ≡ cond (eqb a m) 1 0 + once_in part m
       go (inl e) =
-          let never : list_any (λ l. eqb l m) part ≡ false = list_any_none (λ l. eqb l m) part (λ k d l. eqb_apart (get_or part k d) m (λ same.
+          let never : list_any (λ l. eqb l m) part
+          ≡ false = list_any_none (λ l. eqb l m) part (λ k d l. ne_eqb (get_or part k d) m (λ same.
           let above = AllPairs-from_increasing (a ∷ part) s 0 (k + 1) d (omega arith) (omega arith) in
           let read = behind_head k d in
           let is = e.1 in
@@ -59,10 +62,11 @@ length_le_total [] n s h = omega arith
 length_le_total (a ∷ part) n s h =
     let ih = length_le_total part n (increasing_tail a part s) (All-tail (λ m. m < n) a part h) in
     let e = total_add (λ m. cond (eqb a m) 1 0) (once_in part) (once_in (a ∷ part)) n (once_head a part s) in
-    let one = total_at (λ m. cond (eqb a m) 1 0) a n (All-head (λ m. m < n) a part h) (ap (λ b. cond {A = ℕ} b 1 0) (eqb_refl a)) in
+    let one = total_at (λ m. cond (eqb a m) 1 0) a n (All-head (λ m. m < n) a part h) (ap (λ b. cond {A = ℕ} b 1 0) (eq-eqb a a refl)) in
     omega arith
 
-pub lengths_le_total : (parts : List (List ℕ)) (n : ℕ) → All IsStrictlyIncreasing parts → All (λ part. All (λ m. m < n) part) parts → sum_by length parts ≤ total (parts_with parts) n
+pub lengths_le_total : (parts : List (List ℕ)) (n : ℕ) → All IsStrictlyIncreasing parts → All (λ part. All (λ m. m < n) part) parts
+    → sum_by length parts ≤ total (parts_with parts) n
 lengths_le_total [] n s h = omega arith
 lengths_le_total (part ∷ parts) n s h =
     let ih = lengths_le_total parts n (All-tail IsStrictlyIncreasing part parts s) (All-tail (λ q. All (λ m. m < n) q) part parts h) in
@@ -72,5 +76,6 @@ lengths_le_total (part ∷ parts) n s h =
     omega arith
 
 -- so parts with no position in two of them
-pub lengths_le : (parts : List (List ℕ)) (n : ℕ) → All IsStrictlyIncreasing parts → All (λ part. All (λ m. m < n) part) parts → ((m : ℕ) → m < n → parts_with parts m ≤ 1) → sum_by length parts ≤ n
+pub lengths_le : (parts : List (List ℕ)) (n : ℕ) → All IsStrictlyIncreasing parts → All (λ part. All (λ m. m < n) part) parts
+    → ((m : ℕ) → m < n → parts_with parts m ≤ 1) → sum_by length parts ≤ n
 lengths_le parts n s h d = let a = lengths_le_total parts n s h in let b = total_le (parts_with parts) n d in omega arith

@@ -6,9 +6,9 @@ use Rattle.linear_algebra.specs.Scalars.{Scalars}
 use Rattle.linear_algebra.specs.Spans.{IsIndependent}
 use Rattle.parity_lines.specs.Problems.{ParityProblem, vectors_at}
 use Rattle.parity_lines.specs.Certificates.{bound}
-use Rattle.cert_check.specs.Verdicts.{IsCovered, IsDisjoint, Tells}
-use Rattle.cert_check.specs.declared.answers.Verdict.{Verdict}
-use Rattle.cert_check.specs.declared.answers.Verdict.TheVariants.{Yes, Dependent, KernelDependent, PartsMissing, PartsTwice, BoundOff}
+use Rattle.cert_check.specs.Verdicts.{IsCovered, IsDisjoint, IsVerdictOn}
+use Rattle.cert_check.specs.declared.verdicts.Verdict.{Verdict}
+use Rattle.cert_check.specs.declared.verdicts.Verdict.TheVariants.{Yes, Dependent, KernelDependent, PartsMissing, PartsTwice, BoundOff}
 
 -- how many clauses hold before the one that fails
 abbrev stage : Verdict → ℕ
@@ -29,7 +29,7 @@ module _ (S : Scalars) (p : ParityProblem) (set : List ℕ) (kernel : Matrix) (p
   Clause n = bound S p kernel parts ≡ length set
 
   abbrev Says : Verdict → Type 0
-  Says v = Tells S p set kernel parts v
+  Says v = IsVerdictOn S p set kernel parts v
 
   holds : (v : Verdict) → Says v → (n : ℕ) → n < stage v → Clause n
   holds Dependent t n h = absurd (omega arith)
@@ -65,8 +65,10 @@ module _ (S : Scalars) (p : ParityProblem) (set : List ℕ) (kernel : Matrix) (p
   same_stage : (v w : Verdict) → Says v → Says w → stage v ≡ stage w → v ≡ w
   same_stage Dependent Dependent t u e = refl
   same_stage KernelDependent KernelDependent t u e = refl
-  same_stage (PartsMissing m) (PartsMissing n) t u e = ap (λ k. PartsMissing k) (least m n (λ l. let a = u.3 m l in let z = t.2 in omega arith) (λ l. let a = t.3 n l in let z = u.2 in omega arith))
-  same_stage (PartsTwice m) (PartsTwice n) t u e = ap (λ k. PartsTwice k) (least m n (λ l. let a = u.4 m l in let z = t.3 in omega arith) (λ l. let a = t.4 n l in let z = u.3 in omega arith))
+  same_stage (PartsMissing m) (PartsMissing n) t u e = ap (λ k. PartsMissing k)
+      (least m n (λ l. let a = u.3 m l in let z = t.2 in omega arith) (λ l. let a = t.3 n l in let z = u.2 in omega arith))
+  same_stage (PartsTwice m) (PartsTwice n) t u e = ap (λ k. PartsTwice k)
+      (least m n (λ l. let a = u.4 m l in let z = t.3 in omega arith) (λ l. let a = t.4 n l in let z = u.3 in omega arith))
   same_stage (BoundOff s b) (BoundOff r c) t u e = ap₂ (λ x y. BoundOff x y) (t.3 ∙ sym u.3) (t.4 ∙ sym u.4)
   same_stage Yes Yes t u e = refl
   same_stage v w t u e = absurd (omega arith)

@@ -7,7 +7,8 @@ use Rattle.parity_lines.specs.Problems.{ParityProblem}
 use Rattle.cert_check.specs.Verdicts.{AreIndependent}
 
 -- all positions are within the problem, set and kernel are independent, and the basis has the kernel's span
-pub record IsJudged (S : Scalars) (p : ParityProblem) (set : List ℕ) (kernel : Matrix) (parts : List (List ℕ)) (basis : Matrix) : Type 0 where
+pub record IsJudged (S : Scalars) (p : ParityProblem) (set : List ℕ) (kernel : Matrix) (parts : List (List ℕ))
+    (basis : Matrix) : Type 0 where
   pub set_within : All (λ m. m < length p.lines) set
   pub parts_within : All (λ part. All (λ m. m < length p.lines) part) parts
   pub width : kernel.width ≡ p.dimension

@@ -6,8 +6,8 @@ use Rattle.linear_algebra.specs.Spans.{IsIndependent}
 use Rattle.linear_algebra.specs.Ranks.{rank_over}
 use Rattle.parity_lines.specs.Problems.{ParityProblem, vectors_at}
 use Rattle.parity_lines.specs.Certificates.{parts_with, bound, IsGoodAnswer}
-use Rattle.cert_check.specs.declared.answers.Verdict.{Verdict}
-use Rattle.cert_check.specs.declared.answers.Verdict.TheVariants.{Yes, Dependent, KernelDependent, PartsMissing, PartsTwice, BoundOff}
+use Rattle.cert_check.specs.declared.verdicts.Verdict.{Verdict}
+use Rattle.cert_check.specs.declared.verdicts.Verdict.TheVariants.{Yes, Dependent, KernelDependent, PartsMissing, PartsTwice, BoundOff}
 
 -- the vectors of the set are independent, and so are those of the kernel
 pub record AreIndependent (S : Scalars) (p : ParityProblem) (set : List ℕ) (kernel : Matrix) : Type 0 where
@@ -22,24 +22,31 @@ IsCovered p parts = (m : ℕ) → m < length p.lines → 1 ≤ parts_with parts 
 abbrev pub IsDisjoint : ParityProblem → List (List ℕ) → Type 0
 IsDisjoint p parts = (m : ℕ) → m < length p.lines → parts_with parts m ≤ 1
 
--- what is wrong with the parts, if anything
-abbrev pub TellsFault : ParityProblem → List (List ℕ) → Option Verdict → Type 0
-TellsFault p parts None = IsCovered p parts × IsDisjoint p parts
-TellsFault p parts (Some Yes) = ⊥
-TellsFault p parts (Some Dependent) = ⊥
-TellsFault p parts (Some KernelDependent) = ⊥
-TellsFault p parts (Some (PartsMissing m)) = (m < length p.lines) × (parts_with parts m ≡ 0) × ((k : ℕ) → k < m → 1 ≤ parts_with parts k)
-TellsFault p parts (Some (PartsTwice m)) = IsCovered p parts × (m < length p.lines) × (2 ≤ parts_with parts m) × ((k : ℕ) → k < m → parts_with parts k ≤ 1)
-TellsFault p parts (Some (BoundOff size b)) = ⊥
+-- what is wrong with the parts, or that nothing is
+abbrev pub IsFaultIn : ParityProblem → List (List ℕ) → Option Verdict → Type 0
+IsFaultIn p parts None = IsCovered p parts × IsDisjoint p parts
+IsFaultIn p parts (Some Yes) = ⊥
+IsFaultIn p parts (Some Dependent) = ⊥
+IsFaultIn p parts (Some KernelDependent) = ⊥
+IsFaultIn p parts (Some (PartsMissing m)) = (m < length p.lines) × (parts_with parts m ≡ 0) × ((k : ℕ) → k < m → 1 ≤ parts_with parts k)
+IsFaultIn p parts (Some (PartsTwice m)) =
+    IsCovered p parts × (m < length p.lines) × (2 ≤ parts_with parts m) × ((k : ℕ) → k < m → parts_with parts k ≤ 1)
+IsFaultIn p parts (Some (BoundOff size b)) = ⊥
 
 -- half the rank that each part adds to a list of vectors, rounded down
 abbrev pub halves_over : Scalars → ParityProblem → List (List ℕ) → List (List ℕ) → ℕ
 halves_over S p rows parts = sum_by (λ part. rank_over S p.dimension rows (vectors_at p part) / 2) parts
 
-abbrev pub Tells : Scalars → ParityProblem → List ℕ → Matrix → List (List ℕ) → Verdict → Type 0
-Tells S p set kernel parts Yes = IsGoodAnswer S p set kernel parts
-Tells S p set kernel parts Dependent = ¬ (IsIndependent S p.dimension (vectors_at p set))
-Tells S p set kernel parts KernelDependent = IsIndependent S p.dimension (vectors_at p set) × ¬ (IsIndependent S p.dimension kernel.rows)
-Tells S p set kernel parts (PartsMissing m) = AreIndependent S p set kernel × (m < length p.lines) × (parts_with parts m ≡ 0) × ((k : ℕ) → k < m → 1 ≤ parts_with parts k)
-Tells S p set kernel parts (PartsTwice m) = AreIndependent S p set kernel × IsCovered p parts × (m < length p.lines) × (2 ≤ parts_with parts m) × ((k : ℕ) → k < m → parts_with parts k ≤ 1)
-Tells S p set kernel parts (BoundOff size b) = AreIndependent S p set kernel × IsCovered p parts × IsDisjoint p parts × (size ≡ length set) × (b ≡ bound S p kernel parts) × (b ≢ size)
+-- the verdict is true of the set, the kernel and the parts, and no earlier reason applies
+abbrev pub IsVerdictOn : Scalars → ParityProblem → List ℕ → Matrix → List (List ℕ) → Verdict → Type 0
+IsVerdictOn S p set kernel parts Yes = IsGoodAnswer S p set kernel parts
+IsVerdictOn S p set kernel parts Dependent = ¬ (IsIndependent S p.dimension (vectors_at p set))
+IsVerdictOn S p set kernel parts KernelDependent =
+    IsIndependent S p.dimension (vectors_at p set) × ¬ (IsIndependent S p.dimension kernel.rows)
+IsVerdictOn S p set kernel parts (PartsMissing m) =
+    AreIndependent S p set kernel × (m < length p.lines) × (parts_with parts m ≡ 0) × ((k : ℕ) → k < m → 1 ≤ parts_with parts k)
+IsVerdictOn S p set kernel parts (PartsTwice m) =
+    AreIndependent S p set kernel × IsCovered p parts × (m < length p.lines) × (2 ≤ parts_with parts m)
+    × ((k : ℕ) → k < m → parts_with parts k ≤ 1)
+IsVerdictOn S p set kernel parts (BoundOff size b) =
+    AreIndependent S p set kernel × IsCovered p parts × IsDisjoint p parts × (size ≡ length set) × (b ≡ bound S p kernel parts) × (b ≢ size)

@@ -7,7 +7,7 @@ ghost use Rattle.parity_lines.specs.Problems.{vectors_at};
 ghost use Rattle.linear_algebra.specs.Vectors.{AreVectors};
 ghost use Rattle.linear_algebra.specs.Spans.{IsIndependent};
 ghost use Rattle.cert_check.specs.Judged.{IsJudged};
-ghost use Rattle.cert_check.specs.Verdicts.{IsCovered, IsDisjoint, TellsFault, Tells, halves_over};
+ghost use Rattle.cert_check.specs.Verdicts.{IsCovered, IsDisjoint, IsFaultIn, IsVerdictOn, halves_over};
 
 use crate::Verdict;
 use crate::counts::{count_parts, first_with};
@@ -23,7 +23,7 @@ fn parts_fault<F: Field>(
     parts: &Parts,
 ) -> Result<Option<Verdict>, AllocError>
     requires { All (λ part. All (λ m. m < length problem.now.lines) part) parts.now }
-    ensures { IfOk result (TellsFault problem.now parts.now) }
+    ensures { IfOk result (IsFaultIn problem.now parts.now) }
 {
     let counts = count_parts(alloc, problem.len(), parts)?;
     if let Some(line) = first_with(&counts, 0) {
@@ -66,7 +66,7 @@ fn verdict_by_bound<F: Field>(
     requires judged { IsJudged F.scalars problem.now answer.now.set answer.now.certificate.kernel answer.now.certificate.parts basis }
     requires covered { IsCovered problem.now answer.now.certificate.parts }
     requires disjoint { IsDisjoint problem.now answer.now.certificate.parts }
-    ensures { IfOk result (Tells F.scalars problem.now answer.now.set answer.now.certificate.kernel answer.now.certificate.parts) }
+    ensures { IfOk result (IsVerdictOn F.scalars problem.now answer.now.set answer.now.certificate.kernel answer.now.certificate.parts) }
 {
     let certificate = &answer.certificate;
     let _lines = problem.len();
@@ -89,7 +89,7 @@ fn verdict_by_parts<F: Field>(
     answer: &Answer<F>,
 ) -> Result<Verdict, AllocError>
     requires { IsJudged F.scalars problem.now answer.now.set answer.now.certificate.kernel answer.now.certificate.parts basis }
-    ensures { IfOk result (Tells F.scalars problem.now answer.now.set answer.now.certificate.kernel answer.now.certificate.parts) }
+    ensures { IfOk result (IsVerdictOn F.scalars problem.now answer.now.set answer.now.certificate.kernel answer.now.certificate.parts) }
 {
     match parts_fault(alloc, problem, &answer.certificate.parts)? {
         Some(fault) => Ok(fault),
@@ -107,7 +107,7 @@ fn verdict_by_certificate<F: Field>(
     requires parts { All (λ part. All (λ m. m < length problem.now.lines) part) answer.now.certificate.parts }
     requires width { answer.now.certificate.kernel.width ≡ problem.now.dimension }
     requires independent { IsIndependent F.scalars problem.now.dimension (vectors_at problem.now answer.now.set) }
-    ensures { IfOk result (Tells F.scalars problem.now answer.now.set answer.now.certificate.kernel answer.now.certificate.parts) }
+    ensures { IfOk result (IsVerdictOn F.scalars problem.now answer.now.set answer.now.certificate.kernel answer.now.certificate.parts) }
 {
     let kernel = &answer.certificate.kernel;
     let basis = basis_of(alloc, kernel)?;
@@ -127,7 +127,7 @@ pub fn verdict<F: Field>(
     requires set { All (λ m. m < length problem.now.lines) answer.now.set }
     requires parts { All (λ part. All (λ m. m < length problem.now.lines) part) answer.now.certificate.parts }
     requires width { answer.now.certificate.kernel.width ≡ problem.now.dimension }
-    ensures tells { IfOk result (Tells F.scalars problem.now answer.now.set answer.now.certificate.kernel answer.now.certificate.parts) }
+    ensures tells { IfOk result (IsVerdictOn F.scalars problem.now answer.now.set answer.now.certificate.kernel answer.now.certificate.parts) }
     ensures yes { IfOk result (λ v. (v ≡ Verdict.Yes) ↔ IsGoodAnswer F.scalars problem.now answer.now.set answer.now.certificate.kernel answer.now.certificate.parts) }
     ensures largest { IfOk result (λ v. v ≡ Verdict.Yes → IsLargest F.scalars problem.now answer.now.set) }
 {
@@ -136,6 +136,5 @@ pub fn verdict<F: Field>(
     if let Independence::Relation(_) = found {
         return Ok(Verdict::Dependent);
     }
-    let verdict = verdict_by_certificate(alloc, problem, answer)?;
-    Ok(verdict)
+    verdict_by_certificate(alloc, problem, answer)
 }

@@ -3,4 +3,3 @@ pub mod Spells
 pub mod Texts
 pub mod Steps
 pub mod Spelled
-pub mod Writes

@@ -5,13 +5,7 @@ use Rattle.std.specs.List.Sorted.{IsStrictlyIncreasing}
 use Rattle.graph_core.specs.NamedGraphs.{NamedGraph}
 use Rattle.graph_theory.specs.Cacti.{corners, IsLexicographic}
 use Rattle.graph_theory.specs.Walks.{edge_at}
-
--- a name and a number
-abbrev pub counted_words : List ℕ → ℕ → List (List ℕ)
-counted_words name n = name ∷ decimal n ∷ []
-
-abbrev pub end_line : List (List (List ℕ))
-end_line = (codes "end" ∷ []) ∷ []
+use Rattle.text_forms.specs.Spelling.{counted_words, end_line}
 
 -- the name of a vertex
 abbrev pub name_at : NamedGraph → ℕ → List ℕ

@@ -5,7 +5,7 @@ ghost use Rattle.std.specs.Str.{bytes_eq};
 ghost use Rattle.graph_text.specs.Steps.{TakesLine};
 ghost use Rattle.graph_text.specs.Texts.{vertex_names, edge_names, class_names, after_word, statement, statements, nothing};
 ghost use Rattle.line_lexer.specs.Lines.{lines as text_lines};
-ghost use Rattle.line_lexer.specs.Steps.{SameLine};
+ghost use Rattle.line_lexer.specs.Calls.{SameLine};
 ghost use Rattle.text_forms.specs.Gives.{Fails, Gives, IsOfText};
 
 use crate::names::{class_vertices, edge, one_more, vertices};

@@ -2,7 +2,7 @@
 
 ghost use Rattle.std.specs.Prelude.{◌≡◌, ℕ, ◌+◌, ◌<◌, ◌≤◌, List, ◌∷◌, length, IfOk, IfErr, None, Err, slice_index_or};
 ghost use Rattle.graph_text.specs.Texts.{each, some, named, spelled_vertex, vertex, free_vertex, class_vertex, put_in, two_ends, edge_within};
-ghost use Rattle.line_lexer.specs.Steps.{SameLine, text_at};
+ghost use Rattle.line_lexer.specs.Calls.{SameLine, text_at};
 ghost use Rattle.text_forms.specs.Gives.{Gives, IsOfText};
 
 use graph_core::Graph;

@@ -3,12 +3,13 @@
 ghost use Rattle.std.specs.Prelude.{◌≡◌, ◌<◌, All, length, map};
 ghost use Rattle.std.specs.List.Sorted.{IsStrictlyIncreasing};
 ghost use Rattle.graph_text.specs.Spelled.{edge_words, listed_words, matching_lines, cactus_lines, paths_lines, AreVertices, AreTriples, AreInOrder};
-ghost use Rattle.graph_text.specs.Writes.{Writes};
+ghost use Rattle.text_forms.specs.Writes.{Writes};
 ghost use Rattle.line_lexer.specs.Words.{spelled};
 
-use crate::writing::{put, put_edge, put_head, put_listed};
+use crate::writing::{put_edge, put_head, put_listed};
 use graph_core::{EdgeList, Graph, VertexLists};
 use std::alloc::AllocError;
+use text_forms::put;
 
 /// Puts the lines of the edges last.
 fn put_edges(out: &mut Vec<u8>, graph: &Graph, edges: &EdgeList) -> Result<(), AllocError>

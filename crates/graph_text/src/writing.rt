@@ -1,31 +1,15 @@
-//! Words and lines, as they are written: one space between words, and a newline at the end of a line.
+//! Lines of names and of edges, as they are written.
 
 ghost use Rattle.std.specs.Prelude.{◌≡◌, ◌<◌, ◌+◌, ◌∷◌, ◌++◌, map, length};
-ghost use Rattle.std.specs.Fmt.{decimal};
 ghost use Rattle.std.specs.List.{flat_map};
-ghost use Rattle.graph_text.specs.Spelled.{counted_words, edge_words, listed_words, name_at, AreVertices};
-ghost use Rattle.graph_text.specs.Writes.{Writes};
+ghost use Rattle.graph_text.specs.Spelled.{edge_words, listed_words, name_at, AreVertices};
+ghost use Rattle.text_forms.specs.Spelling.{counted_words};
+ghost use Rattle.text_forms.specs.Writes.{Writes};
 ghost use Rattle.line_lexer.specs.Words.{line_text};
 
 use graph_core::{Graph, VertexList};
-use itoa::Buffer;
 use std::alloc::AllocError;
-
-/// Puts a text last.
-pub fn put(out: &mut Vec<u8>, text: &[u8]) -> Result<(), AllocError>
-    ensures { Writes out.old.items out.new.items text.now result }
-{
-    out.extend_from_slice(text)
-}
-
-/// Puts a space and a number last.
-fn put_number(out: &mut Vec<u8>, n: u128) -> Result<(), AllocError>
-    ensures { Writes out.old.items out.new.items (32 ∷ decimal n) result }
-{
-    put(out, b" ")?;
-    let mut buffer = Buffer::new();
-    put(out, buffer.format(n).as_bytes())
-}
+use text_forms::{put, put_count, put_number};
 
 /// Puts a space and the name of a vertex last.
 fn put_name(out: &mut Vec<u8>, graph: &Graph, vertex: usize) -> Result<(), AllocError>
@@ -45,15 +29,6 @@ fn put_names(out: &mut Vec<u8>, graph: &Graph, vertices: &VertexList) -> Result<
         put_name(out, graph, vertices.at(i))?;
     }
     Ok(())
-}
-
-/// Puts a line of a name and a number last.
-fn put_count(out: &mut Vec<u8>, name: &[u8], n: usize) -> Result<(), AllocError>
-    ensures { Writes out.old.items out.new.items (line_text (counted_words name.now n)) result }
-{
-    put(out, name)?;
-    put_number(out, n as u128)?;
-    put(out, b"\n")
 }
 
 /// Puts the first two lines of a reply last: its name with the version, and how many lines follow.

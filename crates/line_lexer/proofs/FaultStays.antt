@@ -2,7 +2,7 @@
 use Rattle.std.proofs.Common.{◌≡◌, ℕ, List, [], ◌∷◌, Bool, true, false, None, Some, Result, Ok, Err, sym, ap, ◌∙◌}
 use Rattle.line_lexer.specs.Lines.{Line}
 use Rattle.line_lexer.specs.Seen.{Seen}
-use Rattle.line_lexer.specs.Steps.{GoesOn}
+use Rattle.line_lexer.specs.Calls.{GoesOn}
 use Rattle.line_lexer.specs.declared.fault.LexFault.{LexFault}
 use Rattle.line_lexer.specs.declared.fault.TextFault.{TextFault}
 use Rattle.line_lexer.specs.declared.fault.TextFault.TheVariants.{Byte}

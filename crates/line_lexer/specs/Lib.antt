@@ -4,6 +4,6 @@ pub mod Numbers
 pub mod Words
 pub mod WordPlaces
 pub mod Seen
-pub mod Steps
+pub mod Calls
 pub mod FirstLine
 pub mod NextLine

@@ -4,6 +4,10 @@ use Rattle.std.specs.List.{slice_range}
 use Rattle.line_lexer.specs.Lines.{Line, lines, lines_from, words}
 use Rattle.line_lexer.specs.WordPlaces.{word_places, line_start}
 
+-- the bytes that a text may have
+abbrev pub most_bytes : ℕ
+most_bytes = 4194304
+
 -- all the bytes, the lines not yet taken, the number of the line that was last taken, the words left on it, and where each of them begins and ends
 pub record Seen : Type 0 where
   pub bytes : List ℕ
@@ -18,7 +22,7 @@ seen_at bytes at passed line word end = record { bytes = bytes; ahead = lines_fr
 
 -- a line begins at the place, or the text ends there, and so many lines come before it
 pub record IsPlace (bytes : List ℕ) (at passed : ℕ) : Type 0 where
-  pub few : length bytes ≤ 4194304
+  pub few : length bytes ≤ most_bytes
   pub within : at ≤ length bytes
   pub short : passed ≤ at
   pub begins : at ≡ min (line_start passed bytes) (length bytes)

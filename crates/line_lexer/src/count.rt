@@ -1,11 +1,12 @@
 ghost use Rattle.std.specs.Prelude.{◌≡◌, ◌≤◌, length};
 ghost use Rattle.line_lexer.specs.Lines.{lines};
+ghost use Rattle.line_lexer.specs.Seen.{most_bytes};
 
 use crate::scan::line_end;
 
 /// How many lines a text has.
 pub fn line_count(text: &[u8]) -> u32
-    requires { length text.now ≤ 4194304 }
+    requires { length text.now ≤ most_bytes }
     ensures value { result ≡ length (lines text.now) }
     ensures few { result ≤ length text.now }
 {

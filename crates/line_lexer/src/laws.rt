@@ -2,7 +2,7 @@ ghost use Rattle.std.specs.Prelude.{◌≡◌, ℕ, ◌+◌, List, ◌++◌, len
 ghost use Rattle.std.specs.List.{AllByRecursion};
 ghost use Rattle.line_lexer.specs.Lines.{lines, lines_from};
 ghost use Rattle.line_lexer.specs.Seen.{Seen};
-ghost use Rattle.line_lexer.specs.Steps.{GoesOn, SameLine};
+ghost use Rattle.line_lexer.specs.Calls.{GoesOn, SameLine};
 ghost use Rattle.line_lexer.specs.Words.{AreWords, HasWords, IsNumberedWithin, spelled, as_lines};
 ghost use Rattle.line_lexer.specs.declared.fault.LexFault.{LexFault};
 

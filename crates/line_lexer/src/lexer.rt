@@ -1,6 +1,7 @@
 ghost use Rattle.std.specs.Prelude.{◌≡◌, ◌≤◌, ◌↔◌, [], length, IsOk, MatchResult};
 ghost use Rattle.line_lexer.specs.Lines.{lines, lines_from};
-ghost use Rattle.line_lexer.specs.Steps.{GoesOn, SameLine, TakesWord, ReadsNumber, text_at};
+ghost use Rattle.line_lexer.specs.Seen.{most_bytes};
+ghost use Rattle.line_lexer.specs.Calls.{GoesOn, SameLine, TakesWord, ReadsNumber, text_at};
 
 use crate::count::line_count;
 use crate::fault::{LexFault, TextFault};
@@ -10,6 +11,9 @@ use crate::refusal::{Counted, TextRefusal};
 use crate::scan::{word_end, word_start};
 use crate::token::Token;
 use std::marker::Model;
+
+/// The bytes that a text may have.
+pub const MOST_BYTES: usize = 4_194_304;
 
 /// Goes over the lines of a text, and over the words of a line.
 #[derive(Drop)]
@@ -37,10 +41,10 @@ impl<'a> Model for Lexer<'a> {
 }
 
 impl<'a> Lexer<'a> {
-    /// A lexer before the first line of a text of at most 4,194,304 bytes.
+    /// A lexer before the first line of a text of at most [`MOST_BYTES`] bytes.
     #[tactic(auto, using(crate::proofs::Words::words_nil, crate::proofs::WordPlaces::word_places_nil), unfolding(crate::specs::WordPlaces::line_start))]
     pub fn new(bytes: &'a [u8]) -> Lexer<'a>
-        requires { length bytes.now ≤ 4194304 }
+        requires { length bytes.now ≤ most_bytes }
         ensures bytes { result.bytes ≡ bytes.now }
         ensures ahead { result.ahead ≡ lines_from 1 bytes.now }
         ensures line { result.line ≡ 0 }
@@ -165,7 +169,7 @@ impl<'a> Lexer<'a> {
     /// How many lines the input has. Each call goes over the whole input.
     pub fn last_line(&self) -> u32
         ensures value { result ≡ length (lines self.now.bytes) }
-        ensures few { result ≤ 4194304 }
+        ensures few { result ≤ most_bytes }
     {
         line_count(self.bytes)
     }
@@ -175,7 +179,7 @@ impl<'a> Lexer<'a> {
     pub fn line(&self) -> u32
         ensures value { result ≡ self.now.line }
         ensures within { result ≤ length (lines self.now.bytes) }
-        ensures few { result ≤ 4194304 }
+        ensures few { result ≤ most_bytes }
     {
         self.line
     }

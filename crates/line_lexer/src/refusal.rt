@@ -1,7 +1,8 @@
 ghost use Rattle.std.specs.Prelude.{◌≡◌};
-ghost use Rattle.line_lexer.specs.declared.refusal.TextRefusal.TheVariants.{Bad};
+ghost use Rattle.line_lexer.specs.declared.refusal.TextRefusal.TheVariants.{Bad, OutOfMemory};
 
 use crate::fault::{LexFault, TextFault};
+use std::alloc::{AllocError, AllocFailed};
 
 /// What is counted against a limit.
 #[derive(Clone, Copy, Debug, Drop, PartialEq, Eq)]
@@ -36,5 +37,22 @@ impl From<LexFault> for TextRefusal {
             line: fault.line,
             kind: fault.kind,
         }
+    }
+}
+
+/// So does want of memory.
+impl From<AllocError> for TextRefusal {
+    ghost from_gives = { λ _ refusal. refusal ≡ OutOfMemory };
+
+    fn from(_error: AllocError) -> TextRefusal {
+        TextRefusal::OutOfMemory
+    }
+}
+
+impl<T: Drop> From<AllocFailed<T>> for TextRefusal {
+    ghost from_gives = { λ _ refusal. refusal ≡ OutOfMemory };
+
+    fn from(_failed: AllocFailed<T>) -> TextRefusal {
+        TextRefusal::OutOfMemory
     }
 }

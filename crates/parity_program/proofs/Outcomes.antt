@@ -1,17 +1,19 @@
 -- The outcome of a run, from what its calls said.
-use Rattle.std.proofs.Common.{◌≡◌, ℕ, zero, suc, ◌+◌, ◌<◌, ◌≤◌, ◌⊎◌, List, [], ◌∷◌, length, true, false, Option, None, Some, Result, Ok, Err, refl, sym, ap, ◌∙◌, subst, inl, inr, arith}
+use Rattle.std.proofs.Common.{◌≡◌, ℕ, zero, suc, ◌+◌, ◌<◌, ◌≤◌, ◌⊎◌, List, [], ◌∷◌, length, true, false, Option, None, Some, Result, Ok}
+use Rattle.std.proofs.Common.{Err, refl, sym, ap, ◌∙◌, subst, inl, inr, arith}
 use Rattle.std.proofs.lemmas.Bool.{lt-ltb, le-ltb}
 use Rattle.std.specs.Io.KnownBytes.{Appends, Keeps}
-use Rattle.cert_check.specs.declared.answers.Verdict.{Verdict}
-use Rattle.cert_check.specs.declared.answers.Verdict.TheVariants.{Yes, Dependent, KernelDependent, PartsMissing, PartsTwice, BoundOff}
+use Rattle.cert_check.specs.declared.verdicts.Verdict.{Verdict}
+use Rattle.cert_check.specs.declared.verdicts.Verdict.TheVariants.{Yes, Dependent, KernelDependent, PartsMissing, PartsTwice, BoundOff}
 use Rattle.std.specs.Prelude.{IfSome, nat_lt}
-use Rattle.line_lexer.specs.declared.refusal.Counted.{Counted}
 use Rattle.line_lexer.specs.declared.refusal.Counted.TheVariants as counted
 use Rattle.parity_program.specs.Improvements.{Improvement, improvement_status}
 use Rattle.parity_program.specs.Improvements.Improvement.{larger, none, dependent}
-use Rattle.parity_program.specs.Inputs.{Input, input_of, reading, told_to, most_bytes}
+use Rattle.parity_program.specs.Inputs.{Input, input_of, reading, told_to}
+use Rattle.line_lexer.specs.Seen.{most_bytes}
 use Rattle.parity_program.specs.Inputs.Input.{answered, chosen, generated}
-use Rattle.parity_program.specs.Outcome.{OfTold, RepliesToBytes, Replies, Refuses, Outcome, HasReadCause, HasWriteCause, HasByteCause, NoFault, NoReadFault, IsAnsweredOrOutOfMemory, EndsAfterReading}
+use Rattle.parity_program.specs.Outcome.{OfTold, RepliesToBytes, Replies, Refuses, Outcome, HasReadCause, HasWriteCause, HasByteCause}
+use Rattle.parity_program.specs.Outcome.{NoFault, NoReadFault, IsAnsweredOrOutOfMemory, EndsAfterReading}
 use Rattle.parity_program.specs.Replies.{ReplyText, IsReply, verdict_status}
 use Rattle.parity_program.specs.Shown.{RepliesTo, RepliesOrRefuses, IsNoByteLimit, IsWritten, shown, status_of_read}
 use Rattle.parity_program.specs.declared.command.Command.{Command}
@@ -19,7 +21,8 @@ use Rattle.parity_program.specs.declared.command.Command.TheVariants.{OverProble
 use Rattle.parity_program.specs.declared.command.ProblemCommand.{ProblemCommand}
 use Rattle.parity_program.specs.declared.reply.Reply.{Reply}
 use Rattle.parity_program.specs.declared.status.Status.{Status}
-use Rattle.parity_program.specs.declared.status.Status.TheVariants.{Done, No, Usage, BadText, Limit, NotConnected, ReadFault, WriteFault, OutOfMemory}
+use Rattle.parity_program.specs.declared.status.Status.TheVariants.{Done, No, Usage, BadText, Limit, NotConnected, ReadFault, WriteFault}
+use Rattle.parity_program.specs.declared.status.Status.TheVariants.{OutOfMemory}
 use Rattle.parity_program.proofs.Refusals.{IsRefusal, refuses_only}
 use Rattle.text_io.specs.Counts.{Rose}
 use Rattle.text_io.specs.Told.{AppendsProperPrefix}
@@ -30,7 +33,8 @@ use Rattle.text_io.specs.declared.reading.ReadAnswer.TheVariants as read
 -- ---- bytes that are read
 
 -- what is so of all bytes that were read is so of those that are told
-of_read : (IsSo : List ℕ → Type 0) (left : Option (List ℕ)) (bytes : List ℕ) → IfSome left (λ all. bytes ≡ all) → IsSo bytes → OfTold IsSo left
+of_read : (IsSo : List ℕ → Type 0) (left : Option (List ℕ)) (bytes : List ℕ) → IfSome left (λ all. bytes ≡ all) → IsSo bytes
+    → OfTold IsSo left
 of_read IsSo None bytes whole h = (bytes, h)
 of_read IsSo (Some all) bytes whole h = subst IsSo whole h
 
@@ -39,7 +43,8 @@ short : (command : Command) (bytes : List ℕ) → length bytes ≤ most_bytes �
 unfolding reading
 short command bytes h = let few : nat_lt most_bytes (length bytes) ≡ false = le-ltb _ _ h in rw few refl
 
-too_long : (command : Command) (bytes : List ℕ) → most_bytes < length bytes → reading command bytes ≡ Err (Limit counted.Bytes (most_bytes + 1))
+too_long : (command : Command) (bytes : List ℕ) → most_bytes < length bytes
+    → reading command bytes ≡ Err (Limit counted.Bytes (most_bytes + 1))
 unfolding reading
 too_long command bytes h = let long : nat_lt most_bytes (length bytes) ≡ true = lt-ltb _ _ h in rw long refl
 
@@ -48,14 +53,18 @@ some_longer zero = (0 ∷ [], omega arith)
 some_longer (suc n) = let more = some_longer n in (0 ∷ more.0, omega (arith, more.1))
 
 -- the reply to what was read, or its refusal, is that to what is told
-pub of_all_read : (command : ProblemCommand) (left : Option (List ℕ)) (bytes : List ℕ) (result : Result Reply Status) → IfSome left (λ all. bytes ≡ all) → length bytes ≤ most_bytes
+pub of_all_read : (command : ProblemCommand) (left : Option (List ℕ)) (bytes : List ℕ) (result : Result Reply Status)
+    → IfSome left (λ all. bytes ≡ all) → length bytes ≤ most_bytes
     → RepliesTo (input_of (OverProblem command) bytes) result → RepliesOrRefuses (OverProblem command) left result
-of_all_read command left bytes (Ok reply) whole few h = of_read (RepliesToBytes (OverProblem command) (shown reply)) left bytes whole (h.0, short (OverProblem command) bytes few ∙ h.1, h.2)
+of_all_read command left bytes (Ok reply) whole few h =
+    of_read (RepliesToBytes (OverProblem command) (shown reply)) left bytes whole (h.0, short (OverProblem command) bytes few ∙ h.1, h.2)
 of_all_read command left bytes (Err status) whole few (inl memory) = subst (Refuses (OverProblem command) left) (sym memory) tt
 of_all_read command left bytes (Err status) whole few (inr refused) =
-    refuses status (of_read (λ bytes. reading (OverProblem command) bytes ≡ Err status) left bytes whole (short (OverProblem command) bytes few ∙ refused))
+    refuses status (of_read (λ bytes. reading (OverProblem command) bytes ≡ Err status) left bytes whole
+    (short (OverProblem command) bytes few ∙ refused))
   where
-    refuses : (status : Status) → OfTold (λ bytes. reading (OverProblem command) bytes ≡ Err status) left → Refuses (OverProblem command) left status
+    refuses : (status : Status) → OfTold (λ bytes. reading (OverProblem command) bytes ≡ Err status) left
+        → Refuses (OverProblem command) left status
     refuses ReadFault h = refl
     refuses OutOfMemory h = tt
     refuses Done h = h
@@ -67,19 +76,24 @@ of_all_read command left bytes (Err status) whole few (inr refused) =
     refuses WriteFault h = h
 
 -- bytes that can't be had
-pub unread_refuses : (command : ProblemCommand) (left : Option (List ℕ)) (before now : ℕ) (e : ReadAnswer) → HasLengthCause {T = Unit {0}} most_bytes left before now (Err e)
+pub unread_refuses : (command : ProblemCommand) (left : Option (List ℕ)) (before now : ℕ) (e : ReadAnswer)
+    → HasLengthCause {T = Unit {0}} most_bytes left before now (Err e)
     → Refuses (OverProblem command) left (status_of_read e)
 unread_refuses command left before now read.Fault h = refl
-unread_refuses command None before now read.TooLong h = let longer = some_longer most_bytes in (longer.0, too_long (OverProblem command) longer.0 longer.1)
+unread_refuses command None before now read.TooLong h =
+    let longer = some_longer most_bytes in
+    (longer.0, too_long (OverProblem command) longer.0 longer.1)
 unread_refuses command (Some bytes) before now read.TooLong h = too_long (OverProblem command) bytes h.held
 unread_refuses command left before now read.OutOfMemory h = tt
 
-pub unread_cause : (before now : ℕ) (e : ReadAnswer) → HasFaultCause {T = Unit {0}} before now (Err e) → HasReadCause before now (status_of_read e)
+pub unread_cause : (before now : ℕ) (e : ReadAnswer) → HasFaultCause {T = Unit {0}} before now (Err e)
+    → HasReadCause before now (status_of_read e)
 unread_cause before now read.Fault h = h
 unread_cause before now read.TooLong h = h
 unread_cause before now read.OutOfMemory h = h
 
-pub unread_length : (left : Option (List ℕ)) (before now : ℕ) (e : ReadAnswer) → HasLengthCause {T = Unit {0}} most_bytes left before now (Err e) → HasByteCause before now (status_of_read e)
+pub unread_length : (left : Option (List ℕ)) (before now : ℕ) (e : ReadAnswer)
+    → HasLengthCause {T = Unit {0}} most_bytes left before now (Err e) → HasByteCause before now (status_of_read e)
 unread_length left before now read.Fault h = h
 unread_length left before now read.TooLong h = (refl, h.given)
 unread_length left before now read.OutOfMemory h = h
@@ -111,7 +125,8 @@ pub keeps-same : (known : Option (List ℕ)) → Keeps known known
 keeps-same None = tt
 keeps-same (Some bytes) = refl
 
-pub refused_outcome : (command : Command) (left old : Option (List ℕ)) (status : Status) → Refuses command left status → Outcome (Some command) left old old status
+pub refused_outcome : (command : Command) (left old : Option (List ℕ)) (status : Status) → Refuses command left status
+    → Outcome (Some command) left old old status
 refused_outcome command left old Done h = absurd (refuses_only command left Done h)
 refused_outcome command left old No h = absurd (refuses_only command left No h)
 refused_outcome command left old Usage h = refuses_only command left Usage h
@@ -165,40 +180,47 @@ ends (chosen q p M) reply h = improvement h.0 (ap (λ r. r.status) h.2)
     improvement (dependent cs) e = inr e
 ends (generated n) reply h = inl (ap (λ r. r.status) h.2)
 
-replies_end : (command : Command) (known : Option (List ℕ)) (reply : ReplyText) → OfTold (RepliesToBytes command reply) known → (reply.status ≡ Done) ⊎ (reply.status ≡ No)
+replies_end : (command : Command) (known : Option (List ℕ)) (reply : ReplyText) → OfTold (RepliesToBytes command reply) known
+    → (reply.status ≡ Done) ⊎ (reply.status ≡ No)
 replies_end command None reply h = ends h.1.0 reply h.1.2
 replies_end command (Some bytes) reply h = ends h.0 reply h.2
 
 -- what is so of each status that the run can end with, once a reply is due
-pub each_ending : (IsSo : Status → Type 0) (command : Command) (left old new : Option (List ℕ)) (before now : ℕ) (reply : ReplyText) (status : Status) → Replies command left reply
+pub each_ending : (IsSo : Status → Type 0) (command : Command) (left old new : Option (List ℕ)) (before now : ℕ) (reply : ReplyText)
+    (status : Status) → Replies command left reply
     → (reply.status ≡ Done → Appends old new reply.text → now ≡ before → IsSo Done)
     → (reply.status ≡ No → Appends old new reply.text → now ≡ before → IsSo No)
     → (AppendsProperPrefix old new reply.text → Rose before now → IsSo WriteFault)
     → IsWritten old new before now reply status → IsSo status
-each_ending IsSo command left old new before now reply status replies done negative fault (inl w) = by_ending (replies_end command (told_to command left) reply replies)
+each_ending IsSo command left old new before now reply status replies done negative fault (inl w) =
+    by_ending (replies_end command (told_to command left) reply replies)
   where
     by_ending : (reply.status ≡ Done) ⊎ (reply.status ≡ No) → IsSo status
     by_ending (inl e) = subst IsSo (sym (w.0 ∙ e)) (done e w.1 w.2)
     by_ending (inr e) = subst IsSo (sym (w.0 ∙ e)) (negative e w.1 w.2)
 each_ending IsSo command left old new before now reply status replies done negative fault (inr w) = subst IsSo (sym w.0) (fault w.1 w.2)
 
-pub written_outcome : (command : Command) (left old new : Option (List ℕ)) (before now : ℕ) (reply : ReplyText) (status : Status) → Replies command left reply
+pub written_outcome : (command : Command) (left old new : Option (List ℕ)) (before now : ℕ) (reply : ReplyText) (status : Status)
+    → Replies command left reply
     → IsWritten old new before now reply status → Outcome (Some command) left old new status
 written_outcome command left old new before now reply status replies w =
     each_ending (Outcome (Some command) left old new) command left old new before now reply status replies
     (λ e a s. (reply, replies, e, a)) (λ e a s. (reply, replies, e, a)) (λ a r. (reply, replies, a)) w
 
-pub written_cause : (command : Command) (left old new : Option (List ℕ)) (before now : ℕ) (reply : ReplyText) (status : Status) → Replies command left reply
+pub written_cause : (command : Command) (left old new : Option (List ℕ)) (before now : ℕ) (reply : ReplyText) (status : Status)
+    → Replies command left reply
     → IsWritten old new before now reply status → HasWriteCause before now status
 written_cause command left old new before now reply status replies w =
     each_ending (HasWriteCause before now) command left old new before now reply status replies (λ e a s. s) (λ e a s. s) (λ a r. r) w
 
 -- ---- the command that the words name
 
-pub same_outcome : (found other : Option Command) (left old new : Option (List ℕ)) (status : Status) → found ≡ other → Outcome found left old new status → Outcome other left old new status
+pub same_outcome : (found other : Option Command) (left old new : Option (List ℕ)) (status : Status) → found ≡ other
+    → Outcome found left old new status → Outcome other left old new status
 same_outcome found other left old new status e o = subst (λ command. Outcome command left old new status) e o
 
-pub same_end : (found other : Command) (left : Option (List ℕ)) (status : Status) → found ≡ other → EndsAfterReading found left status → EndsAfterReading other left status
+pub same_end : (found other : Command) (left : Option (List ℕ)) (status : Status) → found ≡ other → EndsAfterReading found left status
+    → EndsAfterReading other left status
 same_end found other left status e h = subst (λ command. EndsAfterReading command left status) e h
 
 -- ---- an accepted input is answered
@@ -207,7 +229,8 @@ not_risen : (before now : ℕ) → Rose before now → NoFault before now → �
 not_risen before now (inl rose) h = absurd (omega (arith, rose, h.0))
 not_risen before now (inr last) h = h.1 last.0
 
-module _ (command : Command) (left old new : Option (List ℕ)) (bytes : List ℕ) (x : Input) (told : told_to command left ≡ Some bytes) (ok : reading command bytes ≡ Ok x) where
+module _ (command : Command) (left old new : Option (List ℕ)) (bytes : List ℕ) (x : Input) (told : told_to command left ≡ Some bytes)
+    (ok : reading command bytes ≡ Ok x) where
   not_refused : (status : Status) → OfTold (λ bytes. reading command bytes ≡ Err status) (told_to command left) → ⊥
   not_refused status h =
       let refused : reading command bytes ≡ Err status = subst (OfTold (λ bytes. reading command bytes ≡ Err status)) told h in

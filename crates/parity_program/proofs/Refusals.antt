@@ -1,21 +1,24 @@
 -- Statuses in place of a reply: what the refusal of a part says of the whole, and which statuses refuse.
-use Rattle.std.proofs.Common.{◌≡◌, ℕ, ◌+◌, ◌<◌, ◌≤◌, ◌⊎◌, List, length, Bool, true, false, Option, None, Some, Result, Ok, Err, refl, subst, inl, inr}
+use Rattle.std.proofs.Common.{◌≡◌, ℕ, ◌+◌, ◌⊎◌, List, length, Bool, true, false, Option, None, Some, Result, Ok, Err, refl}
+use Rattle.std.proofs.Common.{subst, inl, inr}
 use Rattle.std.specs.Prelude.{nat_lt, if◌then◌else◌}
 use Rattle.line_lexer.specs.Lines.{Line}
-use Rattle.line_lexer.specs.declared.refusal.Counted.{Counted}
 use Rattle.line_lexer.specs.declared.refusal.Counted.TheVariants as counted
 use Rattle.line_lexer.specs.declared.refusal.TextRefusal.{TextRefusal}
 use Rattle.line_lexer.specs.declared.refusal.TextRefusal.TheVariants as refusal
-use Rattle.parity_program.specs.Inputs.{Input, status_of, accepted, reading, told_to, most_bytes}
+use Rattle.parity_program.specs.Inputs.{Input, status_of, accepted, reading, told_to}
+use Rattle.line_lexer.specs.Seen.{most_bytes}
 use Rattle.parity_program.specs.Outcome.{OfTold, Refuses}
 use Rattle.parity_program.specs.Shown.{IsNoByteLimit}
 use Rattle.parity_program.specs.declared.command.Command.{Command}
 use Rattle.parity_program.specs.declared.status.Status.{Status}
-use Rattle.parity_program.specs.declared.status.Status.TheVariants.{Done, No, Usage, BadText, Limit, NotConnected, ReadFault, WriteFault, OutOfMemory}
+use Rattle.parity_program.specs.declared.status.Status.TheVariants.{Done, No, Usage, BadText, Limit, NotConnected, ReadFault, WriteFault}
+use Rattle.parity_program.specs.declared.status.Status.TheVariants.{OutOfMemory}
 use Rattle.text_forms.specs.Gives.{Fails, IsOfText}
 
 -- what refuses a part refuses the whole
-pub part_refused : {Y : Type 0} (e : TextRefusal) (part : Result Y TextRefusal) (meant : Result Input Status) → ((e : TextRefusal) → part ≡ Err e → meant ≡ Err (status_of e))
+pub part_refused : {Y : Type 0} (e : TextRefusal) (part : Result Y TextRefusal) (meant : Result Input Status)
+    → ((e : TextRefusal) → part ≡ Err e → meant ≡ Err (status_of e))
     → Fails e part → (status_of e ≡ OutOfMemory) ⊎ (meant ≡ Err (status_of e))
 part_refused refusal.OutOfMemory part meant whole h = inl refl
 part_refused (refusal.Bad line kind) part meant whole h = inr (whole _ h)
@@ -41,7 +44,8 @@ of_text refusal.OutOfMemory = tt
 of_text (refusal.Bad line kind) = tt
 of_text (refusal.Limit what found) = tt
 
-of_meaning : (long : Bool) (read : Result (Input × List Line) TextRefusal) (status : Status) → (if long then Err (Limit counted.Bytes (most_bytes + 1)) else accepted read) ≡ Err status → IsRefusal status
+of_meaning : (long : Bool) (read : Result (Input × List Line) TextRefusal) (status : Status)
+    → (if long then Err (Limit counted.Bytes (most_bytes + 1)) else accepted read) ≡ Err status → IsRefusal status
 of_meaning true read status e = let same : Limit counted.Bytes (most_bytes + 1) ≡ status = cc (e) in subst IsRefusal same tt
 of_meaning false (Ok x) status e = absurd (cc (e))
 of_meaning false (Err t) status e = let same : status_of t ≡ status = cc (e) in subst IsRefusal same (of_text t)
@@ -50,7 +54,8 @@ of_bytes : (command : Command) (bytes : List ℕ) (status : Status) → reading 
 unfolding reading
 of_bytes command bytes status e = of_meaning (nat_lt most_bytes (length bytes)) _ status e
 
-of_told : (command : Command) (known : Option (List ℕ)) (status : Status) → OfTold (λ bytes. reading command bytes ≡ Err status) known → IsRefusal status
+of_told : (command : Command) (known : Option (List ℕ)) (status : Status) → OfTold (λ bytes. reading command bytes ≡ Err status) known
+    → IsRefusal status
 of_told command None status h = of_bytes command h.0 status h.1
 of_told command (Some bytes) status h = of_bytes command bytes status h
 

@@ -21,7 +21,8 @@ abbrev pub of_step : Option (List ℕ) → Improvement
 of_step None = none
 of_step (Some N) = larger N
 
--- M is independent, and either N is, which comes of M by one step and is one line longer, or there is no such set; or else the vectors of M have a relation
+-- M is independent, and either N is, which comes of M by one step and is one line longer, or there is no such set;
+-- or else the vectors of M have a relation
 abbrev pub TellsImprovement : Scalars → ParityProblem → List ℕ → Improvement → Type 0
 TellsImprovement S p M (larger N) = IsIndependentSet S p M × TellsDirectStep S p M (Some N)
 TellsImprovement S p M none = IsIndependentSet S p M × TellsDirectStep S p M None

@@ -1,6 +1,7 @@
 -- What the bytes mean that a command is told: an input, or the status that refuses them.
 use Rattle.std.specs.Prelude.{ℕ, ◌+◌, List, [], length, nat_lt, if◌then◌else◌, Option, Some, Result, Ok, Err}
 use Rattle.line_lexer.specs.Lines.{Line}
+use Rattle.line_lexer.specs.Seen.{most_bytes}
 use Rattle.line_lexer.specs.declared.refusal.Counted.TheVariants.{Bytes}
 use Rattle.line_lexer.specs.declared.refusal.TextRefusal.{TextRefusal}
 use Rattle.line_lexer.specs.declared.refusal.TextRefusal.TheVariants as refusal
@@ -62,10 +63,6 @@ accepted (Err e) = Err (status_of e)
 -- what the lines of the bytes mean to a command
 abbrev pub input_of : Command → List ℕ → Result Input Status
 input_of command bytes = accepted (of_text (input_form command) bytes)
-
--- the bytes that an input may have
-abbrev pub most_bytes : ℕ
-most_bytes = 4194304
 
 -- What the bytes mean to a command: an input, or the status that refuses them.
 unfoldable pub reading : Command → List ℕ → Result Input Status

@@ -4,7 +4,8 @@ use Rattle.std.specs.Io.KnownBytes.{Appends, IsAtEnd, Keeps}
 use Rattle.line_lexer.specs.declared.refusal.Counted.{Counted}
 use Rattle.line_lexer.specs.declared.refusal.Counted.TheVariants as counted
 use Rattle.parity_program.specs.Commands.{reads_source}
-use Rattle.parity_program.specs.Inputs.{Input, reading, told_to, most_bytes}
+use Rattle.parity_program.specs.Inputs.{Input, reading, told_to}
+use Rattle.line_lexer.specs.Seen.{most_bytes}
 use Rattle.parity_program.specs.Replies.{ReplyText, IsReply}
 use Rattle.parity_program.specs.declared.command.Command.{Command}
 use Rattle.parity_program.specs.declared.status.Status.{Status}
@@ -27,9 +28,11 @@ Replies command left reply = OfTold (RepliesToBytes command reply) (told_to comm
 
 -- The whole reply was written, and it ends with this status.
 abbrev pub Answered : Command → Option (List ℕ) → Option (List ℕ) → Option (List ℕ) → Status → Type 0
-Answered command left old new status = (reply : ReplyText) × Replies command left reply × (reply.status ≡ status) × Appends old new reply.text
+Answered command left old new status = (reply : ReplyText) × Replies command left reply × (reply.status ≡ status)
+    × Appends old new reply.text
 
--- Why there is no reply: the source that the command reads failed, there was no memory, or what it is told is refused with just this status.
+-- Why there is no reply: the source that the command reads failed, there was no memory, or what it is told is refused
+-- with just this status.
 abbrev pub Refuses : Command → Option (List ℕ) → Status → Type 0
 Refuses command left ReadFault = reads_source command ≡ true
 Refuses command left OutOfMemory = Unit {0}

@@ -1,9 +1,9 @@
 -- The reply to an input.
 use Rattle.std.specs.Prelude.{◌≡◌, ℕ, ◌+◌, List, [], ◌∷◌, ◌++◌, codes}
 use Rattle.std.specs.Fmt.{decimal}
-use Rattle.cert_check.specs.Verdicts.{Tells}
-use Rattle.cert_check.specs.declared.answers.Verdict.{Verdict}
-use Rattle.cert_check.specs.declared.answers.Verdict.TheVariants.{Yes, Dependent, KernelDependent, PartsMissing, PartsTwice, BoundOff}
+use Rattle.cert_check.specs.Verdicts.{IsVerdictOn}
+use Rattle.cert_check.specs.declared.verdicts.Verdict.{Verdict}
+use Rattle.cert_check.specs.declared.verdicts.Verdict.TheVariants.{Yes, Dependent, KernelDependent, PartsMissing, PartsTwice, BoundOff}
 use Rattle.generator.specs.GeneratedProblems.{IsGeneratedProblem}
 use Rattle.line_lexer.specs.Words.{spelled}
 use Rattle.linear_algebra.specs.Scalars.{Scalars}
@@ -45,7 +45,7 @@ verdict_reply verdict = record { text = verdict_words verdict ++ 10 ∷ []; stat
 
 -- to an answer: the line of the verdict on it
 abbrev pub IsVerdictReply : Scalars → ParityProblem → AnswerValue → ReplyText → Type 0
-IsVerdictReply S p a reply = (verdict : Verdict) × Tells S p a.set a.kernel a.parts verdict × (reply ≡ verdict_reply verdict)
+IsVerdictReply S p a reply = (verdict : Verdict) × IsVerdictOn S p a.set a.kernel a.parts verdict × (reply ≡ verdict_reply verdict)
 
 -- the lines that tell an improvement
 abbrev pub improvement_reply : Improvement → ReplyText

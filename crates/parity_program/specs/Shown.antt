@@ -1,16 +1,17 @@
 -- Words of the contracts of private functions alone: how replies of the code are seen, and what they say of what is read.
-use Rattle.std.specs.Prelude.{◌≡◌, ◌≢◌, ℕ, ◌+◌, ◌^◌, ◌<◌, ◌≤◌, ◌⊎◌, List, Option, Result, Ok, Err}
-use Rattle.std.specs.Io.KnownBytes.{Appends, IsAtEnd}
-use Rattle.cert_check.specs.declared.answers.Verdict.{Verdict}
-use Rattle.cert_check.specs.declared.answers.Verdict.TheVariants.{PartsMissing, PartsTwice}
+use Rattle.std.specs.Prelude.{◌≡◌, ◌≢◌, ℕ, ◌+◌, ◌^◌, ◌<◌, ◌≤◌, ◌⊎◌, List, length, Option, Result, Ok, Err}
+use Rattle.std.specs.Io.KnownBytes.{Appends}
+use Rattle.line_lexer.specs.Lines.{lines}
+use Rattle.line_lexer.specs.Seen.{Seen, most_bytes}
 use Rattle.line_lexer.specs.declared.refusal.Counted.TheVariants.{Bytes}
-use Rattle.parity_program.specs.Inputs.{Input, told_to, most_bytes}
+use Rattle.parity_program.specs.Inputs.{Input, accepted}
 use Rattle.parity_program.specs.Outcome.{Replies, Refuses, HasReadCause, HasByteCause}
 use Rattle.parity_program.specs.Replies.{ReplyText, IsReply}
 use Rattle.parity_program.specs.declared.command.Command.{Command}
 use Rattle.parity_program.specs.declared.reply.Reply.{Reply}
 use Rattle.parity_program.specs.declared.status.Status.{Status}
 use Rattle.parity_program.specs.declared.status.Status.TheVariants.{Limit, ReadFault, WriteFault, OutOfMemory}
+use Rattle.text_forms.specs.Forms.{Form, whole_text}
 use Rattle.text_io.specs.Counts.{Rose}
 use Rattle.text_io.specs.Told.{AppendsProperPrefix}
 use Rattle.text_io.specs.declared.reading.ReadAnswer.{ReadAnswer}
@@ -20,11 +21,9 @@ use Rattle.text_io.specs.declared.reading.ReadAnswer.TheVariants as read
 abbrev pub shown : Reply → ReplyText
 shown reply = record { text = reply.text.items; status = reply.status }
 
--- the position that the verdict names can be counted from 1
-abbrev pub HasSmallPosition : Verdict → Type 0
-HasSmallPosition (PartsMissing m) = m + 1 < 2 ^ 64
-HasSmallPosition (PartsTwice m) = m + 1 < 2 ^ 64
-HasSmallPosition verdict = Unit {0}
+-- what is left of a text means by a form, if nothing comes behind it
+abbrev pub meant_by : Form Input → Seen → Result Input Status
+meant_by form lexer = accepted (whole_text form (length (lines lexer.bytes)) lexer.ahead)
 
 -- the reply to what was meant, or the status that refuses it, unless memory ran out
 abbrev pub RepliesTo : Result Input Status → Result Reply Status → Type 0
@@ -59,4 +58,5 @@ GivesWithCause before now (Err status) = HasByteCause before now status
 -- by the sink's bytes and faults, before and after: the reply was written, with its status, or a write failed
 abbrev pub IsWritten : Option (List ℕ) → Option (List ℕ) → ℕ → ℕ → ReplyText → Status → Type 0
 IsWritten old new before now reply status =
-    ((status ≡ reply.status) × Appends old new reply.text × (now ≡ before)) ⊎ ((status ≡ WriteFault) × AppendsProperPrefix old new reply.text × Rose before now)
+    ((status ≡ reply.status) × Appends old new reply.text × (now ≡ before))
+    ⊎ ((status ≡ WriteFault) × AppendsProperPrefix old new reply.text × Rose before now)

@@ -6,7 +6,8 @@ use Rattle.line_lexer.specs.declared.fault.TextFault.TheVariants as fault
 use Rattle.line_lexer.specs.declared.refusal.Counted.{Counted}
 use Rattle.line_lexer.specs.declared.refusal.Counted.TheVariants as counted
 use Rattle.parity_program.specs.declared.status.Status.{Status}
-use Rattle.parity_program.specs.declared.status.Status.TheVariants.{Done, No, Usage, BadText, Limit, NotConnected, ReadFault, WriteFault, OutOfMemory}
+use Rattle.parity_program.specs.declared.status.Status.TheVariants.{Done, No, Usage, BadText, Limit, NotConnected, ReadFault, WriteFault}
+use Rattle.parity_program.specs.declared.status.Status.TheVariants.{OutOfMemory}
 
 abbrev pub code_of : Status → ℕ
 code_of Done = 0

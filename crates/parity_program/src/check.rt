@@ -1,16 +1,13 @@
 //! The command `check`.
 
-ghost use Rattle.std.specs.Prelude.{◌≡◌, IfErr, IfOk, length};
-ghost use Rattle.line_lexer.specs.Lines.{lines as text_lines};
-ghost use Rattle.parity_lines.specs.Problems.{ParityProblem};
-ghost use Rattle.parity_program.specs.Inputs.{accepted, behind};
+ghost use Rattle.std.specs.Prelude.{◌≡◌, IfErr, IfOk};
+ghost use Rattle.parity_program.specs.Inputs.{behind};
 ghost use Rattle.parity_program.specs.Replies.{IsVerdictReply};
-ghost use Rattle.parity_program.specs.Shown.{IsNoByteLimit, RepliesTo, shown};
+ghost use Rattle.parity_program.specs.Shown.{IsNoByteLimit, RepliesTo, meant_by, shown};
 ghost use Rattle.parity_program.specs.declared.command.ProblemCommand.TheVariants.{Check};
 ghost use Rattle.parity_text.specs.Shown.{answer_value};
 ghost use Rattle.parity_text.specs.Values.{IsAnswerTo};
 ghost use Rattle.small_fields.specs.ScalarsOf.{scalars_of};
-ghost use Rattle.text_forms.specs.Forms.{whole_text};
 
 use crate::Status;
 use crate::reply::{Reply, verdict_reply};
@@ -30,9 +27,7 @@ fn checked<F: Field>(
     requires { IsAnswerTo F.scalars problem.now (answer_value answer.now) }
     ensures { IfOk result (λ reply. IsVerdictReply F.scalars problem.now (answer_value answer.now) (shown reply)) }
 {
-    let lines = problem.len();
-    let verdict = verdict(alloc, problem, answer)?;
-    verdict_reply(alloc, verdict)
+    verdict_reply(alloc, verdict(alloc, problem, answer)?)
 }
 
 /// The reply behind the problem: to an answer, up to the end of the input.
@@ -42,7 +37,7 @@ pub fn check<F: Field>(
     problem: &Problem<F>,
 ) -> Result<Reply, Status>
     requires { F.scalars ≡ scalars_of F.scalars.order }
-    ensures replies { RepliesTo (accepted (whole_text (behind Check F.scalars.order problem.now) (length (text_lines lexer.old.bytes)) lexer.old.ahead)) result }
+    ensures replies { RepliesTo (meant_by (behind Check F.scalars.order problem.now) lexer.old) result }
     ensures kind { IfErr result IsNoByteLimit }
 {
     let answer = read_answer(alloc, lexer, problem)?;

@@ -1,13 +1,11 @@
 //! The command `improve`.
 
 ghost use Rattle.std.specs.Prelude.{◌≡◌, ◌<◌, All, IfErr, IfOk, length};
-ghost use Rattle.line_lexer.specs.Lines.{lines as text_lines};
-ghost use Rattle.parity_program.specs.Inputs.{accepted, behind};
+ghost use Rattle.parity_program.specs.Inputs.{behind};
 ghost use Rattle.parity_program.specs.Replies.{IsImprovementReply};
-ghost use Rattle.parity_program.specs.Shown.{IsNoByteLimit, RepliesTo, shown};
+ghost use Rattle.parity_program.specs.Shown.{IsNoByteLimit, RepliesTo, meant_by, shown};
 ghost use Rattle.parity_program.specs.declared.command.ProblemCommand.TheVariants.{Improve};
 ghost use Rattle.small_fields.specs.ScalarsOf.{scalars_of};
-ghost use Rattle.text_forms.specs.Forms.{whole_text};
 
 use crate::Status;
 use crate::reply::{Reply, relation_reply, step_reply};
@@ -43,7 +41,7 @@ pub fn improve<F: Field>(
     problem: &Problem<F>,
 ) -> Result<Reply, Status>
     requires { F.scalars ≡ scalars_of F.scalars.order }
-    ensures replies { RepliesTo (accepted (whole_text (behind Improve F.scalars.order problem.now) (length (text_lines lexer.old.bytes)) lexer.old.ahead)) result }
+    ensures replies { RepliesTo (meant_by (behind Improve F.scalars.order problem.now) lexer.old) result }
     ensures kind { IfErr result IsNoByteLimit }
 {
     let set = read_set(alloc, lexer, problem.len())?;

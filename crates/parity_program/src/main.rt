@@ -16,10 +16,10 @@ ghost use Rattle.parity_program.specs.StatusLines.{code_of};
 
 mod check;
 mod command;
+mod dispatch;
 mod generate;
 mod improve;
 mod reply;
-mod replying;
 mod running;
 mod status;
 mod status_line;
@@ -36,9 +36,6 @@ use std::io::{ErrorKind, Write};
 use std::process::ExitCode;
 use std::{env, io};
 use text_io::{StdSink, StdSource};
-
-/// The bytes that an input may have.
-const MOST_BYTES: usize = 4_194_304;
 
 /// The words after the program's name, or the status where they can't be had: want of memory, or words that
 /// the system refuses.

@@ -1,20 +1,19 @@
 //! The reply to an accepted input.
 
-ghost use Rattle.std.specs.Prelude.{◌≡◌, ◌∷◌, ◌++◌, ◌+◌, ◌<◌, ◌^◌, map, IfOk, OnOk};
-ghost use Rattle.std.specs.Fmt.{decimal};
-ghost use Rattle.std.specs.List.{flat_map};
+ghost use Rattle.std.specs.Prelude.{◌≡◌, ◌++◌, ◌+◌, ◌<◌, IfOk, OnOk};
 ghost use Rattle.line_lexer.specs.Words.{spelled};
 ghost use Rattle.parity_program.specs.Improvements.{improvement_lines, of_step};
 ghost use Rattle.parity_program.specs.Improvements.Improvement.{dependent};
 ghost use Rattle.parity_program.specs.Replies.{verdict_words, verdict_status as status_after, verdict_reply as reply_of, improvement_reply};
-ghost use Rattle.parity_program.specs.Shown.{shown, HasSmallPosition};
+ghost use Rattle.parity_program.specs.Shown.{shown};
 
 use crate::Status;
 use cert_check::Verdict;
 use field_core::{Field, Row};
 use parity_lines::LineSet;
-use parity_text::write_set;
+use parity_text::{put_elements, write_set};
 use std::alloc::{AllocError, Global};
+use text_forms::put_decimal;
 
 /// A text, and the status that the run ends with once it is written.
 #[derive(Drop)]
@@ -23,17 +22,8 @@ pub struct Reply {
     pub status: Status,
 }
 
-/// Puts a number behind.
-fn put_number(out: &mut Vec<u8>, n: usize) -> Result<(), AllocError>
-    ensures { OnOk result (out.new.items ≡ out.old.items ++ decimal n) }
-{
-    let mut buffer = itoa::Buffer::new();
-    out.extend_from_slice(buffer.format(n).as_bytes())
-}
-
 /// Puts what is said of the verdict behind.
 fn put_verdict(out: &mut Vec<u8>, verdict: Verdict) -> Result<(), AllocError>
-    requires { HasSmallPosition verdict }
     ensures { OnOk result (out.new.items ≡ out.old.items ++ verdict_words verdict) }
 {
     match verdict {
@@ -42,17 +32,17 @@ fn put_verdict(out: &mut Vec<u8>, verdict: Verdict) -> Result<(), AllocError>
         Verdict::KernelDependent => out.extend_from_slice(b"no kernel dependent"),
         Verdict::PartsMissing(line) => {
             out.extend_from_slice(b"no missing ")?;
-            put_number(out, line + 1)
+            put_decimal(out, line as u128 + 1)
         }
         Verdict::PartsTwice(line) => {
             out.extend_from_slice(b"no twice ")?;
-            put_number(out, line + 1)
+            put_decimal(out, line as u128 + 1)
         }
         Verdict::BoundOff { size, bound } => {
             out.extend_from_slice(b"no bound ")?;
-            put_number(out, size)?;
+            put_decimal(out, size as u128)?;
             out.extend_from_slice(b" ")?;
-            put_number(out, bound)
+            put_decimal(out, bound as u128)
         }
     }
 }
@@ -69,7 +59,6 @@ fn verdict_status(verdict: Verdict) -> Status
 
 /// The line that tells the verdict.
 pub fn verdict_reply(alloc: Global, verdict: Verdict) -> Result<Reply, AllocError>
-    requires { HasSmallPosition verdict }
     ensures { IfOk result (λ reply. shown reply ≡ reply_of verdict) }
 {
     let mut text = Vec::new(alloc);
@@ -104,24 +93,13 @@ pub fn step_reply(alloc: Global, step: Option<LineSet>) -> Result<Reply, AllocEr
     })
 }
 
-/// Puts the numbers of the coefficients behind, each with a space before it.
-fn put_coefficients<F: Field>(out: &mut Vec<u8>, coefficients: &[F]) -> Result<(), AllocError>
-    ensures { OnOk result (out.new.items ≡ out.old.items ++ flat_map (λ w. 32 ∷ w) (map decimal (map F.number coefficients.now))) }
-{
-    for c in coefficients {
-        out.push(b' ')?;
-        put_number(out, usize::from(c.number()))?;
-    }
-    Ok(())
-}
-
 /// The lines that tell a relation of the set's vectors.
 pub fn relation_reply<F: Field>(alloc: Global, relation: &Row<F>) -> Result<Reply, AllocError>
     ensures { IfOk result (λ reply. shown reply ≡ improvement_reply (dependent relation.now)) }
 {
     let mut text = Vec::new(alloc);
     text.extend_from_slice(b"no dependent\nrelation")?;
-    put_coefficients(&mut text, relation.as_slice())?;
+    put_elements(&mut text, relation.as_slice())?;
     text.push(b'\n')?;
     Ok(Reply {
         text,

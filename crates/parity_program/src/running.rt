@@ -1,17 +1,19 @@
 //! The whole run.
 
-ghost use Rattle.std.specs.Prelude.{◌≡◌, ◌≤◌, ℕ, List, Option, None, Some, Ok, OnOk, false, true, ◌↔◌};
+ghost use Rattle.std.specs.Prelude.{◌≡◌, ℕ, List, Option, None, Some, Ok, OnOk, false, ◌↔◌};
 ghost use Rattle.std.specs.Io.KnownBytes.{IsAtEnd};
 ghost use Rattle.parity_program.specs.Commands.{Named, words_of, reads_source};
 ghost use Rattle.parity_program.specs.Inputs.{Input, reading, told_to};
-ghost use Rattle.parity_program.specs.Outcome.{Outcome, HasReadCause, HasWriteCause, HasByteCause, NoFault, NoReadFault, EndsAfterReading, IsAnsweredOrOutOfMemory};
+ghost use Rattle.parity_program.specs.Outcome.{Outcome, HasReadCause, HasWriteCause, HasByteCause, NoFault, NoReadFault};
+ghost use Rattle.parity_program.specs.Outcome.{EndsAfterReading, IsAnsweredOrOutOfMemory};
 ghost use Rattle.parity_program.specs.Shown.{shown, RepliesOrRefuses, ReadsWithCause, GivesWithCause, IsWritten};
 ghost use Rattle.parity_program.specs.declared.command.Command.{Command};
 ghost use Rattle.parity_program.specs.declared.command.Command.TheVariants.{OverProblem, OfNumber};
 
+use crate::dispatch::{reply_to, reply_to_number};
 use crate::reply::Reply;
-use crate::replying::{reply_to, reply_to_number};
-use crate::{Command, MOST_BYTES, NumberCommand, ProblemCommand, Status};
+use crate::{Command, NumberCommand, ProblemCommand, Status};
+use line_lexer::MOST_BYTES;
 use std::alloc::Global;
 use text_io::{Sink, Source, read_all, write_whole};
 
@@ -107,7 +109,8 @@ pub fn run<I: Source, O: Sink>(
     ensures untouched { result ≡ Status.Usage → (input.new ≡ input.old) × (output.new ≡ output.old) }
 
     // A command that reads nothing leaves the source as it was. Where a reply was due, any other has read it to its end.
-    ensures unread { (command : Command) → Named (words_of words.now) (Some command) → reads_source command ≡ false → input.new ≡ input.old }
+    ensures unread { (command : Command) → Named (words_of words.now) (Some command)
+        → reads_source command ≡ false → input.new ≡ input.old }
     ensures end { (command : Command) → Named (words_of words.now) (Some command) → EndsAfterReading command (I.left input.new) result }
 
     // A fault and the limit on bytes are answered only where the counts of source and sink tell them.

@@ -6,8 +6,8 @@ ghost use Rattle.parity_program.specs.Shown.{status_of_read};
 ghost use Rattle.parity_program.specs.declared.status.Status.TheVariants.{OutOfMemory};
 ghost use Rattle.parity_program.specs.StatusLines.{code_of, fault_name, counted_name, status_text, line_of};
 
-use crate::{MOST_BYTES, StatusLine};
-use line_lexer::{Counted, TextFault, TextRefusal};
+use crate::StatusLine;
+use line_lexer::{Counted, MOST_BYTES, TextFault, TextRefusal};
 use std::alloc::AllocError;
 use text_io::ReadAnswer;
 

@@ -3,8 +3,6 @@
 //! A row is a line of a table: the lines of an input, the line of the status, and the lines of the
 //! reply, where there is one. ` / ` stands between lines, and ` => ` between the three.
 
-ghost use Rattle.std.specs.Prelude.{◌≤◌};
-
 use crate::{Status, run};
 use line_lexer::{Counted, TextFault};
 use std::alloc::{AllocError, Global};

@@ -8,7 +8,8 @@ use Rattle.small_fields.specs.FieldName.{field_orders}
 use Rattle.text_forms.specs.Causality.{FaultsOnLine}
 use Rattle.text_forms.specs.Places.{fixed, number, entry}
 use Rattle.text_forms.specs.Reading.{give, fault}
-use Rattle.text_forms.proofs.Faults.{FaultsOnLine-give, FaultsOnLine-fault, FaultsOnLine-bind, FaultsOnLine-if, FaultsOnLine-fixed, FaultsOnLine-number, FaultsOnLine-entry, FaultsOnLine-times, FaultsOnLine-positions_above, FaultsOnLine-some_positions}
+use Rattle.text_forms.proofs.Faults.{FaultsOnLine-give, FaultsOnLine-fault, FaultsOnLine-bind, FaultsOnLine-if, FaultsOnLine-fixed}
+use Rattle.text_forms.proofs.Faults.{FaultsOnLine-number, FaultsOnLine-entry, FaultsOnLine-times, FaultsOnLine-positions_above, FaultsOnLine-some_positions}
 
 pub FaultsOnLine-order : FaultsOnLine order
 unfolding order
@@ -34,12 +35,15 @@ FaultsOnLine-pair q d =
 
 pub FaultsOnLine-listed_set : (lines count : ℕ) → FaultsOnLine (listed_set lines count)
 unfolding listed_set
-FaultsOnLine-listed_set lines count = FaultsOnLine-bind (fixed (codes "set")) _ (FaultsOnLine-fixed (codes "set")) (λ _. FaultsOnLine-positions_above count lines 0)
+FaultsOnLine-listed_set lines count =
+    FaultsOnLine-bind (fixed (codes "set")) _ (FaultsOnLine-fixed (codes "set")) (λ _. FaultsOnLine-positions_above count lines 0)
 
 pub FaultsOnLine-kernel_vector : (q d : ℕ) → FaultsOnLine (kernel_vector q d)
 unfolding kernel_vector
-FaultsOnLine-kernel_vector q d = FaultsOnLine-bind (fixed (codes "vector")) _ (FaultsOnLine-fixed (codes "vector")) (λ _. FaultsOnLine-vector q d)
+FaultsOnLine-kernel_vector q d =
+    FaultsOnLine-bind (fixed (codes "vector")) _ (FaultsOnLine-fixed (codes "vector")) (λ _. FaultsOnLine-vector q d)
 
 pub FaultsOnLine-part : (lines : ℕ) → FaultsOnLine (part lines)
 unfolding part
-FaultsOnLine-part lines = FaultsOnLine-bind (fixed (codes "part")) _ (FaultsOnLine-fixed (codes "part")) (λ _. FaultsOnLine-some_positions lines)
+FaultsOnLine-part lines = FaultsOnLine-bind (fixed (codes "part")) _ (FaultsOnLine-fixed (codes "part"))
+    (λ _. FaultsOnLine-some_positions lines)

@@ -5,9 +5,11 @@ use Rattle.std.proofs.lemmas.List.Elements.{All-push}
 all_below_more : (set : List ℕ) (m n : ℕ) → All (λ k. k < m) set → m ≤ n → All (λ k. k < n) set
 all_below_more set m n below le k d lt = let b = below k d lt in omega arith
 
-pub below_next : (set longer : List ℕ) (before n : ℕ) → All (λ m. m < before) set → before < n → longer ≡ set ++ (n - 1) ∷ [] → All (λ m. m < n) longer
+pub below_next : (set longer : List ℕ) (before n : ℕ) → All (λ m. m < before) set → before < n → longer ≡ set ++ (n - 1) ∷ []
+    → All (λ m. m < n) longer
 below_next set longer before n below lt pushed =
-    subst (λ (ms : List ℕ). All (λ m. m < n) ms) (sym pushed) (All-push (λ m. m < n) set (n - 1) (all_below_more set before n below (omega arith)) (omega arith))
+    subst (λ (ms : List ℕ). All (λ m. m < n) ms) (sym pushed)
+    (All-push (λ m. m < n) set (n - 1) (all_below_more set before n below (omega arith)) (omega arith))
 
 -- the first one
 pub below_first : (longer : List ℕ) (n : ℕ) → 1 ≤ n → longer ≡ (n - 1) ∷ [] → All (λ m. m < n) longer

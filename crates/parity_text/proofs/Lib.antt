@@ -1,5 +1,4 @@
 pub mod Increasing
-pub mod Pieces
 pub mod TextPieces
 pub mod Faults
 pub mod CausalForms

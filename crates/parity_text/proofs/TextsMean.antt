@@ -8,7 +8,7 @@ use Rattle.parity_lines.specs.Problems.{ParityProblem}
 use Rattle.small_fields.specs.FieldName.{field_orders}
 use Rattle.parity_text.specs.Spells.{SpellsVector, SpellsPair, Named, SpellsHead, SpellsProblem, SpellsSet, SpellsAnswer, SpellsChoice}
 use Rattle.parity_text.specs.Texts.{head, field, pair, problem, sized_set, listed_set, kernel_vector, part, answer, choice}
-use Rattle.parity_text.specs.Values.{AnswerValue}
+use Rattle.parity_text.specs.Values.{AnswerValue, most_dimension, most_lines, most_kernel, most_parts}
 use Rattle.parity_text.proofs.Meaning.{line_and, each_of_times, times_of_each}
 use Rattle.parity_text.proofs.PlacesMean.{Takes-field, Takes-pair, Takes-listed_set, Takes-kernel_vector, Fills-part}
 use Rattle.text_forms.specs.Forms.{line, version, counted, counted_within}
@@ -37,30 +37,41 @@ pub Takes-head : Takes SpellsHead head
 unfolding head
 Takes-head =
     Takes-as head
-    (Takes-bind (VersionLine (codes "parity")) (λ _. IsOneLine (λ q ws. IsNameAndNumeral (codes "field") q ws × Contains field_orders q)) (line (version (codes "parity"))) (λ _. line field)
+    (Takes-bind (VersionLine (codes "parity")) (λ _. IsOneLine (λ q ws. IsNameAndNumeral (codes "field") q ws × Contains field_orders q))
+    (line (version (codes "parity"))) (λ _. line field)
     (Takes-version_line (codes "parity")) (λ _. Takes-line _ field (Fills-from_Takes _ field Takes-field)))
     (λ q text. (
       λ h.
           let parts = (line_and (IsNameAndNumeral (codes "field")) (λ n. Contains field_orders n) q h.2).0 h.5 in
           record { version = h.1; field = h.2; text_is = h.3; spells_version = h.4; spells_field = parts.0; order = parts.1 },
-      λ h. (tt, h.version, h.field, h.text_is, h.spells_version, (line_and (IsNameAndNumeral (codes "field")) (λ n. Contains field_orders n) q h.field).1 (h.spells_field, h.order)),
+      λ h. (
+        tt,
+        h.version,
+        h.field,
+        h.text_is,
+        h.spells_version,
+        (line_and (IsNameAndNumeral (codes "field")) (λ n. Contains field_orders n) q h.field).1 (h.spells_field, h.order),
+      ),
     ))
 
 abbrev ProblemLines : ℕ → ℕ → ℕ → ParityProblem → List Line → Type 0
-ProblemLines q d n p ls = (pairs : List (List ℕ × List ℕ)) × ((length pairs ≡ n) × SpellsTimes (IsOneLine (SpellsPair q d)) pairs ls) × (p ≡ record { dimension = d; lines = pairs })
+ProblemLines q d n p ls = (pairs : List (List ℕ × List ℕ)) × ((length pairs ≡ n) × SpellsTimes (IsOneLine (SpellsPair q d)) pairs ls)
+    × (p ≡ record { dimension = d; lines = pairs })
 
 abbrev CountAndLines : ℕ → ℕ → ParityProblem → List Line → Type 0
-CountAndLines q d p ls = (n : ℕ) × (front : List Line) × (back : List Line) × (ls ≡ front ++ back) × LimitedLine (codes "lines") 2048 n front × ProblemLines q d n p back
+CountAndLines q d p ls = (n : ℕ) × (front : List Line) × (back : List Line) × (ls ≡ front ++ back)
+    × LimitedLine (codes "lines") most_lines n front × ProblemLines q d n p back
 
 abbrev ProblemParts : ℕ → ParityProblem → List Line → Type 0
-ProblemParts q p ls = (d : ℕ) × (front : List Line) × (back : List Line) × (ls ≡ front ++ back) × LimitedLine (codes "dimension") 128 d front × CountAndLines q d p back
+ProblemParts q p ls = (d : ℕ) × (front : List Line) × (back : List Line) × (ls ≡ front ++ back)
+    × LimitedLine (codes "dimension") most_dimension d front × CountAndLines q d p back
 
 problem_forth : (q : ℕ) (p : ParityProblem) (text : List Line) → ProblemParts q p text → SpellsProblem q p text
 problem_forth q p text h =
     let count = h.5 in
     let lines = count.5 in
-    let dimension_line = (line_and (IsNameAndNumeral (codes "dimension")) (λ n. n ≤ 128) h.0 h.1).0 h.4 in
-    let count_line = (line_and (IsNameAndNumeral (codes "lines")) (λ n. n ≤ 2048) count.0 count.1).0 count.4 in
+    let dimension_line = (line_and (IsNameAndNumeral (codes "dimension")) (λ n. n ≤ most_dimension) h.0 h.1).0 h.4 in
+    let count_line = (line_and (IsNameAndNumeral (codes "lines")) (λ n. n ≤ most_lines) count.0 count.1).0 count.4 in
     let long : length lines.0 ≡ count.0 = lines.1.0 in
     subst (λ (p' : ParityProblem). SpellsProblem q p' text) (sym lines.2) (record {
       dimension = h.1;
@@ -71,7 +82,7 @@ problem_forth q p text h =
       spells_count = subst (λ (n : ℕ). CountedLine (codes "lines") n count.1) (sym long) count_line.0;
       spells_lines = each_of_times (IsOneLine (SpellsPair q h.0)) lines.0 count.2 lines.1.1;
       dimension_small = dimension_line.1;
-      few = subst (λ (n : ℕ). n ≤ 2048) (sym long) count_line.1;
+      few = subst (λ (n : ℕ). n ≤ most_lines) (sym long) count_line.1;
     })
 
 problem_back : (q : ℕ) (p : ParityProblem) (text : List Line) → SpellsProblem q p text → ProblemParts q p text
@@ -80,13 +91,14 @@ problem_back q p text h = (
   h.dimension,
   h.count ++ h.lines,
   h.text_is ∙ append_assoc h.dimension h.count h.lines,
-  (line_and (IsNameAndNumeral (codes "dimension")) (λ n. n ≤ 128) p.dimension h.dimension).1 (h.spells_dimension, h.dimension_small),
+  (line_and (IsNameAndNumeral (codes "dimension")) (λ n. n ≤ most_dimension) p.dimension h.dimension).1
+      (h.spells_dimension, h.dimension_small),
   (
     length p.lines,
     h.count,
     h.lines,
     refl,
-    (line_and (IsNameAndNumeral (codes "lines")) (λ n. n ≤ 2048) (length p.lines) h.count).1 (h.spells_count, h.few),
+    (line_and (IsNameAndNumeral (codes "lines")) (λ n. n ≤ most_lines) (length p.lines) h.count).1 (h.spells_count, h.few),
     (p.lines, (refl, times_of_each (IsOneLine (SpellsPair q p.dimension)) p.lines h.lines h.spells_lines), refl),
   ),
 )
@@ -95,17 +107,23 @@ pub Takes-problem : (q : ℕ) → Takes (SpellsProblem q) (problem q)
 unfolding problem
 Takes-problem q =
     Takes-as (problem q)
-    (Takes-bind (LimitedLine (codes "dimension") 128) (CountAndLines q) (line (counted_within (codes "dimension") Dimension 128)) _ (Takes-counted_within (codes "dimension") Dimension 128)
-    (λ d. Takes-bind (LimitedLine (codes "lines") 2048) (ProblemLines q d) (line (counted_within (codes "lines") Lines 2048)) _ (Takes-counted_within (codes "lines") Lines 2048)
-    (λ n. Takes-made (λ pairs ls. (length pairs ≡ n) × SpellsTimes (IsOneLine (SpellsPair q d)) pairs ls) (λ pairs. record { dimension = d; lines = pairs }) (times n (line (pair q d)))
-    (Takes-times (IsOneLine (SpellsPair q d)) n (line (pair q d)) (Takes-line _ (pair q d) (Fills-from_Takes _ (pair q d) (Takes-pair q d)))))))
+    (Takes-bind (LimitedLine (codes "dimension") most_dimension) (CountAndLines q)
+    (line (counted_within (codes "dimension") Dimension most_dimension)) _
+    (Takes-counted_within (codes "dimension") Dimension most_dimension)
+    (λ d. Takes-bind (LimitedLine (codes "lines") most_lines) (ProblemLines q d) (line (counted_within (codes "lines") Lines most_lines)) _
+    (Takes-counted_within (codes "lines") Lines most_lines)
+    (λ n. Takes-made (λ pairs ls. (length pairs ≡ n) × SpellsTimes (IsOneLine (SpellsPair q d)) pairs ls)
+    (λ pairs. record { dimension = d; lines = pairs }) (times n (line (pair q d)))
+    (Takes-times (IsOneLine (SpellsPair q d)) n (line (pair q d))
+    (Takes-line _ (pair q d) (Fills-from_Takes _ (pair q d) (Takes-pair q d)))))))
     (λ p text. (problem_forth q p text, problem_back q p text))
 
 abbrev SetLines : ℕ → ℕ → List ℕ → List Line → Type 0
 SetLines lines s = IsOneLine (Named (codes "set") (λ ps ws. (length ps ≡ s) × SpellsPositions lines ps ws))
 
 abbrev SetParts : ℕ → List ℕ → List Line → Type 0
-SetParts lines set ls = (s : ℕ) × (front : List Line) × (back : List Line) × (ls ≡ front ++ back) × CountedLine (codes "size") s front × SetLines lines s set back
+SetParts lines set ls = (s : ℕ) × (front : List Line) × (back : List Line) × (ls ≡ front ++ back) × CountedLine (codes "size") s front
+    × SetLines lines s set back
 
 set_forth : (lines : ℕ) (set : List ℕ) (text : List Line) → SetParts lines set text → SpellsSet lines set text
 set_forth lines set text h =
@@ -127,7 +145,8 @@ Takes-sized_set : (lines : ℕ) → Takes (SpellsSet lines) (sized_set lines)
 unfolding sized_set
 Takes-sized_set lines =
     Takes-as (sized_set lines)
-    (Takes-bind (CountedLine (codes "size")) (SetLines lines) (line (counted (codes "size"))) (λ s. line (listed_set lines s)) (Takes-counted (codes "size"))
+    (Takes-bind (CountedLine (codes "size")) (SetLines lines) (line (counted (codes "size"))) (λ s. line (listed_set lines s))
+    (Takes-counted (codes "size"))
     (λ s. Takes-line _ (listed_set lines s) (Fills-from_Takes _ (listed_set lines s) (Takes-listed_set lines s))))
     (λ set text. (set_forth lines set text, set_back lines set text))
 
@@ -135,10 +154,12 @@ abbrev EndOfChoice : List ℕ → List ℕ → List Line → Type 0
 EndOfChoice set chosen ls = (_ : Unit {0}) × EndLine tt ls × (chosen ≡ set)
 
 abbrev SetAndEnd : ℕ → List ℕ → List Line → Type 0
-SetAndEnd lines chosen ls = (set : List ℕ) × (front : List Line) × (back : List Line) × (ls ≡ front ++ back) × SpellsSet lines set front × EndOfChoice set chosen back
+SetAndEnd lines chosen ls = (set : List ℕ) × (front : List Line) × (back : List Line) × (ls ≡ front ++ back) × SpellsSet lines set front
+    × EndOfChoice set chosen back
 
 abbrev ChoiceParts : ℕ → List ℕ → List Line → Type 0
-ChoiceParts lines chosen ls = (_ : Unit {0}) × (front : List Line) × (back : List Line) × (ls ≡ front ++ back) × VersionLine (codes "choice") tt front × SetAndEnd lines chosen back
+ChoiceParts lines chosen ls = (_ : Unit {0}) × (front : List Line) × (back : List Line) × (ls ≡ front ++ back)
+    × VersionLine (codes "choice") tt front × SetAndEnd lines chosen back
 
 choice_forth : (lines : ℕ) (chosen : List ℕ) (text : List Line) → ChoiceParts lines chosen text → SpellsChoice lines chosen text
 choice_forth lines chosen text h =
@@ -154,14 +175,22 @@ choice_forth lines chosen text h =
     })
 
 choice_back : (lines : ℕ) (chosen : List ℕ) (text : List Line) → SpellsChoice lines chosen text → ChoiceParts lines chosen text
-choice_back lines chosen text h =
-    (tt, h.version, h.set ++ h.end, h.text_is ∙ append_assoc h.version h.set h.end, h.spells_version, (chosen, h.set, h.end, refl, h.spells_set, (tt, h.spells_end, refl)))
+choice_back lines chosen text h = (
+  tt,
+  h.version,
+  h.set ++ h.end,
+  h.text_is
+      ∙ append_assoc h.version h.set h.end,
+  h.spells_version,
+  (chosen, h.set, h.end, refl, h.spells_set, (tt, h.spells_end, refl)),
+)
 
 pub Takes-choice : (lines : ℕ) → Takes (SpellsChoice lines) (choice lines)
 unfolding choice
 Takes-choice lines =
     Takes-as (choice lines)
-    (Takes-bind (VersionLine (codes "choice")) (λ _. SetAndEnd lines) (line (version (codes "choice"))) _ (Takes-version_line (codes "choice"))
+    (Takes-bind (VersionLine (codes "choice")) (λ _. SetAndEnd lines) (line (version (codes "choice"))) _
+    (Takes-version_line (codes "choice"))
     (λ _. Takes-bind (SpellsSet lines) EndOfChoice (sized_set lines) _ (Takes-sized_set lines)
     (λ set. Takes-made EndLine (λ _. set) (line (fixed (codes "end"))) (Takes-alone (codes "end")))))
     (λ chosen text. (choice_forth lines chosen text, choice_back lines chosen text))
@@ -181,23 +210,29 @@ module _ (q d lines : ℕ) where
 
   abbrev AnswerParts : List ℕ → List (List ℕ) → ℕ → AnswerValue → List Line → Type 0
   AnswerParts set vs m a ls =
-      (ps : List (List ℕ)) × (front : List Line) × (back : List Line) × (ls ≡ front ++ back) × ((length ps ≡ m) × SpellsTimes (PartLine lines) ps front) × AnswerEnd set vs ps a back
+      (ps : List (List ℕ)) × (front : List Line) × (back : List Line) × (ls ≡ front ++ back)
+      × ((length ps ≡ m) × SpellsTimes (PartLine lines) ps front) × AnswerEnd set vs ps a back
 
   abbrev AnswerPartCount : List ℕ → List (List ℕ) → AnswerValue → List Line → Type 0
-  AnswerPartCount set vs a ls = (m : ℕ) × (front : List Line) × (back : List Line) × (ls ≡ front ++ back) × LimitedLine (codes "parts") 2048 m front × AnswerParts set vs m a back
+  AnswerPartCount set vs a ls = (m : ℕ) × (front : List Line) × (back : List Line) × (ls ≡ front ++ back)
+      × LimitedLine (codes "parts") most_parts m front × AnswerParts set vs m a back
 
   abbrev AnswerKernel : List ℕ → ℕ → AnswerValue → List Line → Type 0
   AnswerKernel set k a ls =
-      (vs : List (List ℕ)) × (front : List Line) × (back : List Line) × (ls ≡ front ++ back) × ((length vs ≡ k) × SpellsTimes (KernelLine q d) vs front) × AnswerPartCount set vs a back
+      (vs : List (List ℕ)) × (front : List Line) × (back : List Line) × (ls ≡ front ++ back)
+      × ((length vs ≡ k) × SpellsTimes (KernelLine q d) vs front) × AnswerPartCount set vs a back
 
   abbrev AnswerKernelCount : List ℕ → AnswerValue → List Line → Type 0
-  AnswerKernelCount set a ls = (k : ℕ) × (front : List Line) × (back : List Line) × (ls ≡ front ++ back) × LimitedLine (codes "kernel") 128 k front × AnswerKernel set k a back
+  AnswerKernelCount set a ls = (k : ℕ) × (front : List Line) × (back : List Line) × (ls ≡ front ++ back)
+      × LimitedLine (codes "kernel") most_kernel k front × AnswerKernel set k a back
 
   abbrev AnswerSet : AnswerValue → List Line → Type 0
-  AnswerSet a ls = (set : List ℕ) × (front : List Line) × (back : List Line) × (ls ≡ front ++ back) × SpellsSet lines set front × AnswerKernelCount set a back
+  AnswerSet a ls = (set : List ℕ) × (front : List Line) × (back : List Line) × (ls ≡ front ++ back) × SpellsSet lines set front
+      × AnswerKernelCount set a back
 
   abbrev AnswerWhole : AnswerValue → List Line → Type 0
-  AnswerWhole a ls = (_ : Unit {0}) × (front : List Line) × (back : List Line) × (ls ≡ front ++ back) × VersionLine (codes "answer") tt front × AnswerSet a back
+  AnswerWhole a ls = (_ : Unit {0}) × (front : List Line) × (back : List Line) × (ls ≡ front ++ back)
+      × VersionLine (codes "answer") tt front × AnswerSet a back
 
   answer_forth : (a : AnswerValue) (text : List Line) → AnswerWhole a text → SpellsAnswer q d lines a text
   answer_forth a text h =
@@ -207,11 +242,12 @@ module _ (q d lines : ℕ) where
       let part_count = kernel.5 in
       let parts = part_count.5 in
       let end = parts.5 in
-      let k_line = (line_and (IsNameAndNumeral (codes "kernel")) (λ n. n ≤ 128) kernel_count.0 kernel_count.1).0 kernel_count.4 in
-      let m_line = (line_and (IsNameAndNumeral (codes "parts")) (λ n. n ≤ 2048) part_count.0 part_count.1).0 part_count.4 in
+      let k_line = (line_and (IsNameAndNumeral (codes "kernel")) (λ n. n ≤ most_kernel) kernel_count.0 kernel_count.1).0 kernel_count.4 in
+      let m_line = (line_and (IsNameAndNumeral (codes "parts")) (λ n. n ≤ most_parts) part_count.0 part_count.1).0 part_count.4 in
       let k_long : length kernel.0 ≡ kernel_count.0 = kernel.4.0 in
       let m_long : length parts.0 ≡ part_count.0 = parts.4.0 in
-      let right : text ≡ h.1 ++ (set.1 ++ (kernel_count.1 ++ (kernel.1 ++ (part_count.1 ++ (parts.1 ++ parts.2))))) = rw (h.3, set.3, kernel_count.3, kernel.3, part_count.3, parts.3) refl in
+      let right : text ≡ h.1 ++ (set.1 ++ (kernel_count.1 ++ (kernel.1 ++ (part_count.1 ++ (parts.1 ++ parts.2))))) = rw
+      (h.3, set.3, kernel_count.3, kernel.3, part_count.3, parts.3) refl in
       subst (λ (b : AnswerValue). SpellsAnswer q d lines b text) (sym end.2) (record {
         version = h.1;
         set = set.1;
@@ -229,8 +265,8 @@ module _ (q d lines : ℕ) where
         spells_parts = each_of_times (PartLine lines) parts.0 parts.1 parts.4.1;
         spells_end = end.1;
         width = refl;
-        kernel_small = subst (λ (n : ℕ). n ≤ 128) (sym k_long) k_line.1;
-        few_parts = subst (λ (n : ℕ). n ≤ 2048) (sym m_long) m_line.1;
+        kernel_small = subst (λ (n : ℕ). n ≤ most_kernel) (sym k_long) k_line.1;
+        few_parts = subst (λ (n : ℕ). n ≤ most_parts) (sym m_long) m_line.1;
       })
 
   answer_back : (a : AnswerValue) (text : List Line) → SpellsAnswer q d lines a text → AnswerWhole a text
@@ -251,7 +287,8 @@ module _ (q d lines : ℕ) where
         h.kernel_count,
         h.kernel ++ (h.part_count ++ (h.parts ++ h.end)),
         refl,
-        (line_and (IsNameAndNumeral (codes "kernel")) (λ n. n ≤ 128) (length a.kernel.rows) h.kernel_count).1 (h.spells_kernel_count, h.kernel_small),
+        (line_and (IsNameAndNumeral (codes "kernel")) (λ n. n ≤ most_kernel) (length a.kernel.rows) h.kernel_count).1
+            (h.spells_kernel_count, h.kernel_small),
         (
           a.kernel.rows,
           h.kernel,
@@ -263,8 +300,16 @@ module _ (q d lines : ℕ) where
             h.part_count,
             h.parts ++ h.end,
             refl,
-            (line_and (IsNameAndNumeral (codes "parts")) (λ n. n ≤ 2048) (length a.parts) h.part_count).1 (h.spells_part_count, h.few_parts),
-            (a.parts, h.parts, h.end, refl, (refl, times_of_each (PartLine lines) a.parts h.parts h.spells_parts), (tt, h.spells_end, of_width a h.width)),
+            (line_and (IsNameAndNumeral (codes "parts")) (λ n. n ≤ most_parts) (length a.parts) h.part_count).1
+                (h.spells_part_count, h.few_parts),
+            (
+              a.parts,
+              h.parts,
+              h.end,
+              refl,
+              (refl, times_of_each (PartLine lines) a.parts h.parts h.spells_parts),
+              (tt, h.spells_end, of_width a h.width),
+            ),
           ),
         ),
       ),
@@ -280,10 +325,14 @@ module _ (q d lines : ℕ) where
       Takes-as (answer q d lines)
       (Takes-bind (VersionLine (codes "answer")) (λ _. AnswerSet) (line (version (codes "answer"))) _ (Takes-version_line (codes "answer"))
       (λ _. Takes-bind (SpellsSet lines) AnswerKernelCount (sized_set lines) _ (Takes-sized_set lines)
-      (λ set. Takes-bind (LimitedLine (codes "kernel") 128) (AnswerKernel set) (line (counted_within (codes "kernel") Kernel 128)) _ (Takes-counted_within (codes "kernel") Kernel 128)
-      (λ k. Takes-bind (λ vs ls. (length vs ≡ k) × SpellsTimes (KernelLine q d) vs ls) (AnswerPartCount set) (times k (line (kernel_vector q d))) _
-      (Takes-times (KernelLine q d) k (line (kernel_vector q d)) (Takes-line _ (kernel_vector q d) (Fills-from_Takes _ (kernel_vector q d) (Takes-kernel_vector q d))))
-      (λ vs. Takes-bind (LimitedLine (codes "parts") 2048) (AnswerParts set vs) (line (counted_within (codes "parts") Parts 2048)) _ (Takes-counted_within (codes "parts") Parts 2048)
+      (λ set. Takes-bind (LimitedLine (codes "kernel") most_kernel) (AnswerKernel set)
+      (line (counted_within (codes "kernel") Kernel most_kernel)) _ (Takes-counted_within (codes "kernel") Kernel most_kernel)
+      (λ k. Takes-bind (λ vs ls. (length vs ≡ k) × SpellsTimes (KernelLine q d) vs ls) (AnswerPartCount set)
+      (times k (line (kernel_vector q d))) _
+      (Takes-times (KernelLine q d) k (line (kernel_vector q d))
+      (Takes-line _ (kernel_vector q d) (Fills-from_Takes _ (kernel_vector q d) (Takes-kernel_vector q d))))
+      (λ vs. Takes-bind (LimitedLine (codes "parts") most_parts) (AnswerParts set vs)
+      (line (counted_within (codes "parts") Parts most_parts)) _ (Takes-counted_within (codes "parts") Parts most_parts)
       (λ m. Takes-bind (λ ps ls. (length ps ≡ m) × SpellsTimes (PartLine lines) ps ls) (AnswerEnd set vs) (times m (line (part lines))) _
       (Takes-times (PartLine lines) m (line (part lines)) (Takes-line _ (part lines) (Fills-part lines)))
       (λ ps. Takes-made EndLine (λ _. made set vs ps) (line (fixed (codes "end"))) (Takes-alone (codes "end")))))))))

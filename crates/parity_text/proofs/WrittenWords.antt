@@ -9,9 +9,10 @@ use Rattle.line_lexer.specs.Words.{IsWord, AreWords}
 use Rattle.linear_algebra.specs.Scalars.{Scalars, IsScalar}
 use Rattle.linear_algebra.specs.Vectors.{IsVector}
 use Rattle.small_fields.specs.FieldName.{field_orders}
-use Rattle.parity_text.specs.Spelled.{counted_words, position_words}
+use Rattle.parity_text.specs.Spelled.{position_words}
+use Rattle.parity_text.specs.Values.{most_lines}
 use Rattle.parity_text.specs.Spells.{SpellsVector}
-use Rattle.text_forms.specs.Spelling.{AreNumerals, IsNameAndNumeral, SpellsPositions}
+use Rattle.text_forms.specs.Spelling.{AreNumerals, IsNameAndNumeral, SpellsPositions, counted_words}
 use Rattle.text_forms.proofs.Numerals.{decimal-numeral, numeral-word}
 
 pub each_of : {A : Type 0} (P : A → Type 0) (xs : List A) → All P xs → AllByRecursion P xs
@@ -52,17 +53,28 @@ numerals_are_words (n ∷ ns) (w ∷ ws) h = (numeral-word n w h.0, numerals_are
 pub written_vector : (S : Scalars) (d : ℕ) (v : List ℕ) → S.order ≤ 256 → IsVector S d v → SpellsVector S.order d v (map decimal v)
 written_vector S d v small h =
     let entries = each_of (IsScalar S) v h.entries in
-    record { long = h.length_is; below = entries; numerals = numerals_of v (each_means (IsScalar S) (λ n. n < 10 ^ 9) (λ n lt. omega (arith, lt, small)) v entries) }
+    record {
+      long = h.length_is;
+      below = entries;
+      numerals =
+          numerals_of v (each_means (IsScalar S) (λ n. n < 10 ^ 9) (λ n lt. omega (arith, lt, small)) v entries);
+    }
 
-position_numerals : (ps : List ℕ) → AllByRecursion (λ p. p < 2048) ps → AreNumerals (map (λ p. p + 1) ps) (position_words ps)
+position_numerals : (ps : List ℕ) → AllByRecursion (λ p. p < most_lines) ps → AreNumerals (map (λ p. p + 1) ps) (position_words ps)
 position_numerals [] h = tt
 position_numerals (p ∷ ps) h = (decimal-numeral (p + 1) (omega (arith, h.0)), position_numerals ps h.1)
 
 -- increasing positions, by the decimals of their numbers from 1
-pub written_positions : (lines : ℕ) (ps : List ℕ) → lines ≤ 2048 → IsStrictlyIncreasing ps → All (λ m. m < lines) ps → SpellsPositions lines ps (position_words ps)
+pub written_positions : (lines : ℕ) (ps : List ℕ) → lines ≤ most_lines → IsStrictlyIncreasing ps → All (λ m. m < lines) ps
+    → SpellsPositions lines ps (position_words ps)
 written_positions lines ps few increasing within =
     let below = each_of (λ m. m < lines) ps within in
-    record { increasing = increasing; below = below; numerals = position_numerals ps (each_means (λ m. m < lines) (λ p. p < 2048) (λ n lt. omega (arith, lt, few)) ps below) }
+    record {
+      increasing = increasing;
+      below = below;
+      numerals =
+          position_numerals ps (each_means (λ m. m < lines) (λ p. p < most_lines) (λ n lt. omega (arith, lt, few)) ps below);
+    }
 
 pub written_count : (name : List ℕ) (n : ℕ) → n < 10 ^ 9 → IsNameAndNumeral name n (counted_words name n)
 written_count name n small = (decimal n, refl, decimal-numeral n small)

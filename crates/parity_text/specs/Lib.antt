@@ -4,4 +4,3 @@ pub mod Values
 pub mod Shown
 pub mod Spelled
 pub mod Spells
-pub mod Writes

@@ -3,10 +3,7 @@ use Rattle.std.specs.Prelude.{ℕ, ◌+◌, List, [], ◌∷◌, ◌++◌, lengt
 use Rattle.std.specs.Fmt.{decimal}
 use Rattle.parity_lines.specs.Problems.{ParityProblem}
 use Rattle.parity_text.specs.Values.{AnswerValue}
-
--- a name and a number
-abbrev pub counted_words : List ℕ → ℕ → List (List ℕ)
-counted_words name n = name ∷ decimal n ∷ []
+use Rattle.text_forms.specs.Spelling.{counted_words, end_line}
 
 -- positions count from 1 in a text
 abbrev pub position_words : List ℕ → List (List ℕ)
@@ -23,9 +20,6 @@ problem_lines q p =
 
 abbrev pub set_lines : List ℕ → List (List (List ℕ))
 set_lines set = counted_words (codes "size") (length set) ∷ (codes "set" ∷ position_words set) ∷ []
-
-abbrev pub end_line : List (List (List ℕ))
-end_line = (codes "end" ∷ []) ∷ []
 
 abbrev pub answer_lines : AnswerValue → List (List (List ℕ))
 answer_lines a =

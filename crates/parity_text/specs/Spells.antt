@@ -3,7 +3,7 @@ use Rattle.std.specs.Prelude.{◌≡◌, ℕ, ◌<◌, ◌≤◌, List, [], ◌�
 use Rattle.std.specs.List.{AllByRecursion, Contains}
 use Rattle.line_lexer.specs.Lines.{Line}
 use Rattle.parity_lines.specs.Problems.{ParityProblem}
-use Rattle.parity_text.specs.Values.{AnswerValue}
+use Rattle.parity_text.specs.Values.{AnswerValue, most_dimension, most_lines, most_kernel, most_parts}
 use Rattle.small_fields.specs.FieldName.{field_orders}
 use Rattle.text_forms.specs.Spelling.{AreNumerals, SpellsPositions, IsNameAndNumeral, IsOneLine}
 
@@ -48,8 +48,8 @@ pub record SpellsProblem (q : ℕ) (p : ParityProblem) (text : List Line) : Type
   pub spells_dimension : IsOneLine (IsNameAndNumeral (codes "dimension")) p.dimension dimension
   pub spells_count : IsOneLine (IsNameAndNumeral (codes "lines")) (length p.lines) count
   pub spells_lines : SpellEach (IsOneLine (SpellsPair q p.dimension)) p.lines lines
-  pub dimension_small : p.dimension ≤ 128
-  pub few : length p.lines ≤ 2048
+  pub dimension_small : p.dimension ≤ most_dimension
+  pub few : length p.lines ≤ most_lines
 
 -- `size s` and `set` with s increasing positions
 pub record SpellsSet (lines : ℕ) (set : List ℕ) (text : List Line) : Type 0 where
@@ -74,11 +74,12 @@ pub record SpellsAnswer (q d lines : ℕ) (a : AnswerValue) (text : List Line) :
   pub spells_kernel_count : IsOneLine (IsNameAndNumeral (codes "kernel")) (length a.kernel.rows) kernel_count
   pub spells_kernel : SpellEach (IsOneLine (Named (codes "vector") (SpellsVector q d))) a.kernel.rows kernel
   pub spells_part_count : IsOneLine (IsNameAndNumeral (codes "parts")) (length a.parts) part_count
-  pub spells_parts : SpellEach (IsOneLine (Named (codes "part") (λ ps words. (0 < length ps) × SpellsPositions lines ps words))) a.parts parts
+  pub spells_parts : SpellEach (IsOneLine
+      (Named (codes "part") (λ ps words. (0 < length ps) × SpellsPositions lines ps words))) a.parts parts
   pub spells_end : IsOneLine (λ (_ : Unit {0}) words. words ≡ codes "end" ∷ []) tt end
   pub width : a.kernel.width ≡ d
-  pub kernel_small : length a.kernel.rows ≤ 128
-  pub few_parts : length a.parts ≤ 2048
+  pub kernel_small : length a.kernel.rows ≤ most_kernel
+  pub few_parts : length a.parts ≤ most_parts
 
 -- `choice 1`, the set and `end`
 pub record SpellsChoice (lines : ℕ) (chosen : List ℕ) (text : List Line) : Type 0 where
@@ -99,7 +100,8 @@ pub record SpellsProblemText (q : ℕ) (p : ParityProblem) (text : List Line) : 
   pub spells_problem : SpellsProblem q p problem
 
 -- a whole text of a problem, and behind it lines that spell a value by the problem
-pub record SpellsWith {A : Type 0} (SpellsRest : ℕ → ParityProblem → A → List Line → Type 0) (q : ℕ) (p : ParityProblem) (x : A) (text : List Line) : Type 0 where
+pub record SpellsWith {A : Type 0} (SpellsRest : ℕ → ParityProblem → A → List Line → Type 0) (q : ℕ) (p : ParityProblem) (x : A)
+    (text : List Line) : Type 0 where
   pub problem : List Line
   pub rest : List Line
   pub text_is : text ≡ problem ++ rest

@@ -4,7 +4,7 @@ use Rattle.std.specs.List.{list_any}
 use Rattle.line_lexer.specs.declared.fault.TextFault.TheVariants.{Field}
 use Rattle.line_lexer.specs.declared.refusal.Counted.TheVariants.{Dimension, Lines, Kernel, Parts}
 use Rattle.parity_lines.specs.Problems.{ParityProblem}
-use Rattle.parity_text.specs.Values.{AnswerValue}
+use Rattle.parity_text.specs.Values.{AnswerValue, most_dimension, most_lines, most_kernel, most_parts}
 use Rattle.small_fields.specs.FieldName.{field_orders}
 use Rattle.text_forms.specs.Forms.{Form, line, version, counted, counted_within}
 use Rattle.text_forms.specs.Places.{Place, fixed, number, entry, positions, some_positions, times}
@@ -44,8 +44,8 @@ pair q d = do
 -- over the field of order q: `dimension d`, `lines n`, and n lines
 unfoldable pub problem : ℕ → Form ParityProblem
 problem q = do
-  d ← line (counted_within (codes "dimension") Dimension 128)
-  n ← line (counted_within (codes "lines") Lines 2048)
+  d ← line (counted_within (codes "dimension") Dimension most_dimension)
+  n ← line (counted_within (codes "lines") Lines most_lines)
   ls ← times n (line (pair q d))
   give (record { dimension = d; lines = ls })
 
@@ -78,9 +78,9 @@ unfoldable pub answer : ℕ → ℕ → ℕ → Form AnswerValue
 answer q d lines = do
   _ ← line (version (codes "answer"))
   set ← sized_set lines
-  k ← line (counted_within (codes "kernel") Kernel 128)
+  k ← line (counted_within (codes "kernel") Kernel most_kernel)
   vs ← times k (line (kernel_vector q d))
-  m ← line (counted_within (codes "parts") Parts 2048)
+  m ← line (counted_within (codes "parts") Parts most_parts)
   ps ← times m (line (part lines))
   _ ← line (fixed (codes "end"))
   give (record { set = set; kernel = record { width = d; rows = vs }; parts = ps })

@@ -1,9 +1,9 @@
 //! The lines before a problem: the version, and the field.
 
-ghost use Rattle.std.specs.Prelude.{◌≡◌, ◌≢◌, ◌==◌, length, IsSome, IfSome, IfErr, Err, false, true, MatchOption};
+ghost use Rattle.std.specs.Prelude.{◌≡◌, ◌≢◌, ◌==◌, length, IfErr, Err, false, true, MatchOption};
 ghost use Rattle.std.specs.List.{list_any};
 ghost use Rattle.line_lexer.specs.Lines.{lines as text_lines};
-ghost use Rattle.line_lexer.specs.Steps.{SameLine};
+ghost use Rattle.line_lexer.specs.Calls.{SameLine};
 ghost use Rattle.parity_text.specs.Texts.{order, field, head};
 ghost use Rattle.small_fields.specs.FieldName.{field_orders, order_of};
 ghost use Rattle.text_forms.specs.Forms.{line};
@@ -70,6 +70,5 @@ pub fn read_head(lexer: &mut Lexer<'_>) -> Result<FieldName, TextRefusal>
     ensures memory { result ≢ Err TextRefusal.OutOfMemory }
 {
     version_line(lexer, b"parity")?;
-    let name = field_line(lexer)?;
-    Ok(name)
+    field_line(lexer)
 }

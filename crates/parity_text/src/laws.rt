@@ -1,6 +1,5 @@
-ghost use Rattle.std.specs.Prelude.{◌≡◌, ◌≢◌, ℕ, ◌<◌, ◌↔◌, List, [], ◌++◌, length, All, Ok};
+ghost use Rattle.std.specs.Prelude.{◌≡◌, ℕ, ◌↔◌, List, [], ◌++◌, length, Ok};
 ghost use Rattle.std.specs.List.{Contains};
-ghost use Rattle.std.specs.List.Sorted.{IsStrictlyIncreasing};
 ghost use Rattle.line_lexer.specs.Lines.{Line, lines_from};
 ghost use Rattle.line_lexer.specs.Words.{spelled};
 ghost use Rattle.linear_algebra.specs.Scalars.{Scalars};
@@ -8,7 +7,8 @@ ghost use Rattle.parity_lines.specs.LineSets.{IsLineSet};
 ghost use Rattle.parity_lines.specs.Problems.{ParityProblem};
 ghost use Rattle.parity_text.specs.Files.{problem_file, answer_file, choice_file};
 ghost use Rattle.parity_text.specs.Spelled.{problem_lines, answer_lines, choice_lines};
-ghost use Rattle.parity_text.specs.Spells.{SpellsHead, SpellsProblem, SpellsAnswer, SpellsChoice, SpellsProblemText, SpellsAnswerText, SpellsChoiceText};
+ghost use Rattle.parity_text.specs.Spells.{SpellsHead, SpellsProblem, SpellsAnswer, SpellsChoice, SpellsProblemText, SpellsAnswerText};
+ghost use Rattle.parity_text.specs.Spells.{SpellsChoiceText};
 ghost use Rattle.parity_text.specs.Texts.{head, problem, answer, choice};
 ghost use Rattle.parity_text.specs.Values.{AnswerValue, IsWithinLimits, IsAnswerTo};
 ghost use Rattle.small_fields.specs.FieldName.{field_orders};

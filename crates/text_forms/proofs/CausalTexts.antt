@@ -10,7 +10,8 @@ use Rattle.line_lexer.proofs.SameFront.{lines_from-same}
 use Rattle.text_forms.specs.Forms.{Form, of_text}
 use Rattle.text_forms.specs.Causality.{IsOnLine, IsRefusedAtLine, RefusesCausally, RefusesAlike}
 
-abbrev refused_alike : {A : Type 0} (form : Form A) (bytes : List ℕ) (e : TextRefusal) (r : IsRefusedAtLine form (lines_from 1 bytes) e) → RefusesAlike form bytes r.at.number e
+abbrev refused_alike : {A : Type 0} (form : Form A) (bytes : List ℕ) (e : TextRefusal) (r : IsRefusedAtLine form (lines_from 1 bytes) e)
+    → RefusesAlike form bytes r.at.number e
 refused_alike form bytes e r others same =
     let count : (r.at.number + 1) - 1 ≡ r.at.number = omega arith in
     let same' : take ((r.at.number + 1) - 1) (lines others) ≡ take ((r.at.number + 1) - 1) (lines bytes) = rw count same in
@@ -18,7 +19,8 @@ refused_alike form bytes e r others same =
     let split : lines_from 1 others ≡ (r.before ++ r.at ∷ []) ++ more.0 = more.1 ∙ sym (append_assoc r.before (r.at ∷ []) more.0) in
     rw split (r.refuses (length (lines others)) more.0)
 
-pub refused_fault : {A : Type 0} (form : Form A) → RefusesCausally form → (bytes : List ℕ) (line : ℕ) (kind : TextFault) → kind ≢ Missing → of_text form bytes ≡ Err (Bad line kind) → RefusesAlike form bytes line (Bad line kind)
+pub refused_fault : {A : Type 0} (form : Form A) → RefusesCausally form → (bytes : List ℕ) (line : ℕ) (kind : TextFault) → kind ≢ Missing
+    → of_text form bytes ≡ Err (Bad line kind) → RefusesAlike form bytes line (Bad line kind)
 refused_fault form causal bytes line kind not_missing h =
     elim (causal (length (lines bytes)) (lines_from 1 bytes) (Bad line kind) h) [
       | inl missing ↦ absurd (not_missing (cc (missing)))

@@ -11,3 +11,4 @@ pub mod CausalTexts
 pub mod Written
 pub mod Due
 pub mod Loops
+pub mod Pieces

@@ -32,11 +32,19 @@ record Step (count lines before : ℕ) (ps : List ℕ) (ws : List (List ℕ)) : 
   counted : length others ≡ count
   rest : SpellsFrom n lines others more
 
-step_to : (count lines before : ℕ) (ps : List ℕ) (ws : List (List ℕ)) → Step count lines before ps ws → (length ps ≡ suc count) × SpellsFrom before lines ps ws
+step_to : (count lines before : ℕ) (ps : List ℕ) (ws : List (List ℕ)) → Step count lines before ps ws
+    → (length ps ≡ suc count) × SpellsFrom before lines ps ws
 step_to count lines before ps ws s =
     let value : (s.n - 1) + 1 ≡ s.n = omega (arith, s.in_range.0) in
-    let set : IsSetFrom before lines ((s.n - 1) ∷ s.others) = (omega (arith, s.in_range.2, value), omega (arith, s.in_range.1, value), subst (λ (k : ℕ). IsSetFrom k lines s.others) (sym value) s.rest.0) in
-    let numerals : AreNumerals (((s.n - 1) + 1) ∷ map (λ p. p + 1) s.others) (s.word ∷ s.more) = (subst (λ (k : ℕ). IsNumeralOf k s.word) (sym value) s.numeral, s.rest.1) in (
+    let set : IsSetFrom before lines
+    ((s.n - 1) ∷ s.others) = (
+      omega (arith, s.in_range.2, value),
+      omega (arith, s.in_range.1, value),
+      subst
+          (λ (k : ℕ). IsSetFrom k lines s.others) (sym value) s.rest.0,
+    ) in
+    let numerals : AreNumerals (((s.n - 1) + 1) ∷ map (λ p. p + 1) s.others)
+    (s.word ∷ s.more) = (subst (λ (k : ℕ). IsNumeralOf k s.word) (sym value) s.numeral, s.rest.1) in (
       ap length s.ps_are ∙ ap suc s.counted,
       (
         subst (λ (qs : List ℕ). IsSetFrom before lines qs) (sym s.ps_are) set,
@@ -44,7 +52,8 @@ step_to count lines before ps ws s =
       ),
     )
 
-step_from : (count lines before : ℕ) (ps : List ℕ) (ws : List (List ℕ)) → length ps ≡ suc count → SpellsFrom before lines ps ws → Step count lines before ps ws
+step_from : (count lines before : ℕ) (ps : List ℕ) (ws : List (List ℕ)) → length ps ≡ suc count → SpellsFrom before lines ps ws
+    → Step count lines before ps ws
 step_from count lines before [] ws e h = absurd (omega arith)
 step_from count lines before (p ∷ ps) [] e h = absurd h.1
 step_from count lines before (p ∷ ps) (w ∷ ws) e h =
@@ -64,10 +73,13 @@ step_from count lines before (p ∷ ps) (w ∷ ws) e h =
 
 abbrev Parts : ℕ → ℕ → ℕ → List ℕ → List (List ℕ) → Type 0
 Parts count lines before ps whole =
-    (n : ℕ) × (front : List (List ℕ)) × (back : List (List ℕ)) × (whole ≡ front ++ back) × (IsOneNumeral n front × IsPosition lines before n)
-    × ((qs : List ℕ) × (f : List (List ℕ)) × (b : List (List ℕ)) × (back ≡ f ++ b) × ((length qs ≡ count) × SpellsFrom n lines qs f) × ((ps ≡ (n - 1) ∷ qs) × (b ≡ [])))
+    (n : ℕ) × (front : List (List ℕ)) × (back : List (List ℕ)) × (whole ≡ front ++ back)
+    × (IsOneNumeral n front × IsPosition lines before n)
+    × ((qs : List ℕ) × (f : List (List ℕ)) × (b : List (List ℕ)) × (back ≡ f ++ b) × ((length qs ≡ count) × SpellsFrom n lines qs f)
+    × ((ps ≡ (n - 1) ∷ qs) × (b ≡ [])))
 
-parts_step : (count lines before : ℕ) (ps : List ℕ) (whole : List (List ℕ)) → Parts count lines before ps whole → Step count lines before ps whole
+parts_step : (count lines before : ℕ) (ps : List ℕ) (whole : List (List ℕ)) → Parts count lines before ps whole
+    → Step count lines before ps whole
 parts_step count lines before ps whole h =
     let last = h.5 in
     let back : h.2 ≡ last.1 = last.3 ∙ ap (λ (t : List (List ℕ)). last.1 ++ t) last.5.1 ∙ append-nil last.1 in
@@ -84,7 +96,8 @@ parts_step count lines before ps whole h =
       rest = last.4.1;
     }
 
-step_parts : (count lines before : ℕ) (ps : List ℕ) (whole : List (List ℕ)) → Step count lines before ps whole → Parts count lines before ps whole
+step_parts : (count lines before : ℕ) (ps : List ℕ) (whole : List (List ℕ)) → Step count lines before ps whole
+    → Parts count lines before ps whole
 step_parts count lines before ps whole s = (
   s.n,
   s.word ∷ [],
@@ -94,7 +107,8 @@ step_parts count lines before ps whole s = (
   (s.others, s.more, [], sym (append-nil s.more), (s.counted, s.rest), (s.ps_are, refl)),
 )
 
-pub Takes-positions_above : (count lines before : ℕ) → Takes (λ ps ws. (length ps ≡ count) × SpellsFrom before lines ps ws) (positions_above count lines before)
+pub Takes-positions_above : (count lines before : ℕ)
+    → Takes (λ ps ws. (length ps ≡ count) × SpellsFrom before lines ps ws) (positions_above count lines before)
 unfolding positions_above
 Takes-positions_above zero lines before =
     Takes-same (λ ps ws. (ps ≡ []) × (ws ≡ [])) _ (give [])
@@ -111,7 +125,9 @@ Takes-positions_above (suc count) lines before =
       λ h. step_parts count lines before ps whole (step_from count lines before ps whole h.0 h.1),
     ))
     (Takes-bind (λ n ws. IsOneNumeral n ws × IsPosition lines before n)
-    (λ n ps back. (qs : List ℕ) × (f : List (List ℕ)) × (b : List (List ℕ)) × (back ≡ f ++ b) × ((length qs ≡ count) × SpellsFrom n lines qs f) × ((ps ≡ (n - 1) ∷ qs) × (b ≡ [])))
+    (λ n ps back. (qs : List ℕ) × (f : List (List ℕ)) × (b : List (List ℕ)) × (back ≡ f ++ b)
+    × ((length qs ≡ count) × SpellsFrom n lines qs f) × ((ps ≡ (n - 1) ∷ qs) × (b ≡ [])))
     (position lines before) (λ n. positions_above count lines n >>= λ qs. give ((n - 1) ∷ qs)) (Takes-position lines before)
-    (λ n. Takes-bind (λ qs f. (length qs ≡ count) × SpellsFrom n lines qs f) (λ qs ps b. (ps ≡ (n - 1) ∷ qs) × (b ≡ [])) (positions_above count lines n) (λ qs. give ((n - 1) ∷ qs))
+    (λ n. Takes-bind (λ qs f. (length qs ≡ count) × SpellsFrom n lines qs f) (λ qs ps b. (ps ≡ (n - 1) ∷ qs) × (b ≡ []))
+    (positions_above count lines n) (λ qs. give ((n - 1) ∷ qs))
     (Takes-positions_above count lines n) (λ qs. Takes-give ((n - 1) ∷ qs))))

@@ -36,11 +36,13 @@ pub record IsRefusedAtLine {A : Type 0} (form : Form A) (text : List Line) (e : 
 
 -- A value comes of the lines taken alone.
 abbrev pub GivesCausally : {A : Type 0} → Form A → Type 0
-GivesCausally {A} form = (last : ℕ) (text rest : List Line) (x : A) → form last text ≡ Ok (x, rest) → (front : List Line) × (text ≡ front ++ rest) × GivesAfter form front x
+GivesCausally {A} form = (last : ℕ) (text rest : List Line) (x : A) → form last text ≡ Ok (x, rest)
+    → (front : List Line) × (text ≡ front ++ rest) × GivesAfter form front x
 
 -- A refusal comes of the lines up to its line alone, or it is Missing after the last line.
 abbrev pub RefusesCausally : {A : Type 0} → Form A → Type 0
-RefusesCausally form = (last : ℕ) (text : List Line) (e : TextRefusal) → form last text ≡ Err e → (e ≡ Bad (last + 1) Missing) ⊎ IsRefusedAtLine form text e
+RefusesCausally form = (last : ℕ) (text : List Line) (e : TextRefusal) → form last text ≡ Err e
+    → (e ≡ Bad (last + 1) Missing) ⊎ IsRefusedAtLine form text e
 
 -- Every text with the same lines up to this one is refused in the same way.
 abbrev pub RefusesAlike : {A : Type 0} → Form A → List ℕ → ℕ → TextRefusal → Type 0

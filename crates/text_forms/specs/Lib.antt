@@ -5,3 +5,4 @@ pub mod Gives
 pub mod Taken
 pub mod Spelling
 pub mod Causality
+pub mod Writes

@@ -1,5 +1,6 @@
 -- The places of a line: each takes its words from the front of those that are left.
-use Rattle.std.specs.Prelude.{ℕ, zero, suc, ◌-◌, max, List, [], ◌∷◌, length, ◌==◌, ◌&&◌, nat_le, nat_lt, if◌then◌else◌, Option, None, Some, Ok, Err}
+use Rattle.std.specs.Prelude.{ℕ, zero, suc, ◌-◌, max, List, [], ◌∷◌, length, ◌==◌, ◌&&◌, nat_le, nat_lt, if◌then◌else◌, Option, None}
+use Rattle.std.specs.Prelude.{Some, Ok, Err}
 use Rattle.std.specs.Str.{bytes_eq}
 use Rattle.line_lexer.specs.Numbers.{number_of}
 use Rattle.line_lexer.specs.declared.fault.TextFault.TheVariants.{Word, Version, Number, Range, Order, Count}

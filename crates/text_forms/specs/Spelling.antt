@@ -1,6 +1,7 @@
 -- How values are spelled by words, and what it means that a reader gives the values that are spelled.
-use Rattle.std.specs.Prelude.{◌≡◌, ℕ, ◌+◌, ◌<◌, ◌≤◌, ◌↔◌, List, [], ◌∷◌, ◌++◌, length, map, true, Some, Ok}
+use Rattle.std.specs.Prelude.{◌≡◌, ℕ, ◌+◌, ◌<◌, ◌≤◌, ◌↔◌, List, [], ◌∷◌, ◌++◌, length, map, true, Some, Ok, codes}
 use Rattle.std.specs.Char.{is_ascii_digit}
+use Rattle.std.specs.Fmt.{decimal}
 use Rattle.std.specs.List.{AllByRecursion, list_all}
 use Rattle.std.specs.List.Sorted.{IsStrictlyIncreasing}
 use Rattle.std.specs.Str.Parse.{digits_value}
@@ -17,7 +18,8 @@ pub record IsNumeralOf (n : ℕ) (word : List ℕ) : Type 0 where
 
 -- The reader gives a value exactly where a front of what is left spells it, and leaves the rest.
 abbrev pub Takes : {T A : Type 0} → (A → List T → Type 0) → Reads T A → Type 0
-Takes {T} {A} spells reader = (at : ℕ) (left rest : List T) (x : A) → (reader at left ≡ Ok (x, rest)) ↔ ((front : List T) × (left ≡ front ++ rest) × spells x front)
+Takes {T} {A} spells reader = (at : ℕ) (left rest : List T) (x : A)
+    → (reader at left ≡ Ok (x, rest)) ↔ ((front : List T) × (left ≡ front ++ rest) × spells x front)
 
 -- The place gives a value and leaves no word exactly where the words spell it.
 abbrev pub Fills : {A : Type 0} → (A → List (List ℕ) → Type 0) → Place A → Type 0
@@ -51,3 +53,11 @@ IsNameAndNumeral name n words = (word : List ℕ) × (words ≡ name ∷ word �
 -- one line, whose words spell the value
 abbrev pub IsOneLine : {A : Type 0} → (A → List (List ℕ) → Type 0) → A → List Line → Type 0
 IsOneLine spells x ls = (n : ℕ) × (words : List (List ℕ)) × (ls ≡ record { number = n; words = Some words } ∷ []) × spells x words
+
+-- a name and the one decimal of the number, as they are written
+abbrev pub counted_words : List ℕ → ℕ → List (List ℕ)
+counted_words name n = name ∷ decimal n ∷ []
+
+-- the last line of a text, as it is written
+abbrev pub end_line : List (List (List ℕ))
+end_line = (codes "end" ∷ []) ∷ []

@@ -9,9 +9,11 @@ ghost use Rattle.line_lexer.specs.declared.refusal.Counted.{Counted};
 ghost use Rattle.line_lexer.specs.declared.refusal.TextRefusal.{TextRefusal};
 ghost use Rattle.text_forms.specs.Causality.{IsOnLine, FaultsOnLine, GivesCausally, RefusesCausally, RefusesAlike};
 ghost use Rattle.text_forms.specs.Forms.{Form, due, line, finished, version, counted, counted_within, of_text, whole_text};
-ghost use Rattle.text_forms.specs.Places.{Place, word, ended, fixed, number, version_number, limited, entry, position, positions, some_positions, times};
+ghost use Rattle.text_forms.specs.Places.{Place, word, ended, fixed, number, version_number, limited, entry, position, positions};
+ghost use Rattle.text_forms.specs.Places.{some_positions, times};
 ghost use Rattle.text_forms.specs.Reading.{Reads, chain, give};
-ghost use Rattle.text_forms.specs.Spelling.{IsNumeralOf, StartsWithNumeral, IsOneNumeral, IsNameAndNumeral, IsOneLine, AreNumerals, SpellsPositions, Takes, Fills};
+ghost use Rattle.text_forms.specs.Spelling.{IsNumeralOf, StartsWithNumeral, IsOneNumeral, IsNameAndNumeral, IsOneLine, AreNumerals};
+ghost use Rattle.text_forms.specs.Spelling.{SpellsPositions, Takes, Fills};
 
 /// A word is read as a number exactly where it is a numeral of it. The decimal of a number below 10^9 is one, zeros may
 /// stand before it, and each numeral is a word.

@@ -1,6 +1,6 @@
-ghost use Rattle.std.specs.Prelude.{◌≡◌, ◌≢◌, ◌≤◌, [], length, IfErr, OnOk, OnErr, Err};
+ghost use Rattle.std.specs.Prelude.{◌≡◌, ◌≢◌, [], length, IfErr, OnOk, OnErr, Err};
 ghost use Rattle.line_lexer.specs.Lines.{lines as text_lines};
-ghost use Rattle.line_lexer.specs.Steps.{LeavesLine};
+ghost use Rattle.line_lexer.specs.Calls.{LeavesLine};
 ghost use Rattle.text_forms.specs.Forms.{due, line, finished, version, counted, counted_within};
 ghost use Rattle.text_forms.specs.Gives.{Gives, IsOfText};
 ghost use Rattle.text_forms.specs.Places.{fixed};

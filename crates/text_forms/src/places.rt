@@ -1,9 +1,10 @@
 ghost use Rattle.std.specs.Prelude.{◌≡◌, ◌≢◌, ℕ, ◌<◌, ◌≤◌, List, length, IfSome, IfOk, IfErr, Err};
 ghost use Rattle.std.specs.Str.{bytes_eq};
 ghost use Rattle.line_lexer.specs.Numbers.{number_of};
-ghost use Rattle.line_lexer.specs.Steps.{SameLine, text_at};
+ghost use Rattle.line_lexer.specs.Calls.{SameLine, text_at};
 ghost use Rattle.text_forms.specs.Gives.{Gives, IsOfText};
-ghost use Rattle.text_forms.specs.Places.{fixed, spelled_number, number, version_number, limited, entry, as_position, position, position_or_end};
+ghost use Rattle.text_forms.specs.Places.{fixed, spelled_number, number, version_number, limited, entry, as_position, position};
+ghost use Rattle.text_forms.specs.Places.{position_or_end};
 
 use crate::words::due_word;
 use line_lexer::{Counted, Lexer, TextFault, TextRefusal, Token};

@@ -1,5 +1,5 @@
-ghost use Rattle.std.specs.Prelude.{◌≡◌, ◌≢◌, ◌≤◌, length, IfOk, IfErr, Err};
-ghost use Rattle.line_lexer.specs.Steps.{IsToken, SameLine, text_at};
+ghost use Rattle.std.specs.Prelude.{◌≢◌, IfOk, IfErr, Err};
+ghost use Rattle.line_lexer.specs.Calls.{IsToken, SameLine, text_at};
 ghost use Rattle.text_forms.specs.Gives.{Gives, IsOfText};
 ghost use Rattle.text_forms.specs.Places.{word, ended};
 

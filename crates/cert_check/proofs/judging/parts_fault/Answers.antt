@@ -14,7 +14,8 @@ returns-in-Some-first_with g c =
     let n = length c.args.problem.now.lines in
     let long = c.in_ok-counts.ensures.long ∙ c.len.ensures.value in
     let twice = twice_told c.deref-2.result.now n c.args.parts.now c.in_ok-counts.counts.items c.deref-2.ensures.value long
-    (λ m h. c.in_ok-counts.ensures.counts m (subst (λ l. m < l) (sym c.len.ensures.value) h)) c.in-Some-first_with.line c.in-Some-first_with.ensures in (
+    (λ m h. c.in_ok-counts.ensures.counts m
+    (subst (λ l. m < l) (sym c.len.ensures.value) h)) c.in-Some-first_with.line c.in-Some-first_with.ensures in (
       covered_told c.deref.result.now n c.args.parts.now c.in_ok-counts.counts.items c.deref.ensures.value long
           (λ m h. c.in_ok-counts.ensures.counts m (subst (λ l. m < l) (sym c.len.ensures.value) h)) c.in_default.ensures,
       twice.0,

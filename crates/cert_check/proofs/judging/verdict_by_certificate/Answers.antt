@@ -8,7 +8,8 @@ returns-then-rank-len g c =
     let rank = c.rank.ensures.value in
     let long = c.len.ensures.value in (
       c.requires.independent,
-      kernel_dependent g.F.Field.scalars g.met.F.Field.lawful c.args.problem.now c.args.answer.now.certificate.kernel c.in_ok-basis.basis c.requires.width c.len.ensures.vectors c.in_ok-basis.ensures (omega arith),
+      kernel_dependent g.F.Field.scalars g.met.F.Field.lawful c.args.problem.now c.args.answer.now.certificate.kernel c.in_ok-basis.basis
+          c.requires.width c.len.ensures.vectors c.in_ok-basis.ensures (omega arith),
     )
 
 pub verdict_by_parts-requires : goal.verdict_by_parts-requires
@@ -21,7 +22,8 @@ verdict_by_parts-requires g c =
       width = c.requires.width;
       independent = record {
         of_set = c.requires.independent;
-        of_kernel = kernel_independent g.F.Field.scalars g.met.F.Field.lawful c.args.problem.now c.args.answer.now.certificate.kernel c.in_ok-basis.basis c.requires.width c.len.ensures.vectors c.in_ok-basis.ensures (omega arith);
+        of_kernel = kernel_independent g.F.Field.scalars g.met.F.Field.lawful c.args.problem.now c.args.answer.now.certificate.kernel
+            c.in_ok-basis.basis c.requires.width c.len.ensures.vectors c.in_ok-basis.ensures (omega arith);
       };
       basis_is = c.in_ok-basis.ensures;
     }

@@ -1,5 +1,5 @@
 use Rattle.std.proofs.Common.{subst}
-use Rattle.cert_check.specs.Verdicts.{TellsFault}
+use Rattle.cert_check.specs.Verdicts.{IsFaultIn}
 use Rattle.cert_check.proofs.Judged.{fault_told}
 use Rattle.cert_check.proofs.judging.verdict_by_parts.Goals as goal
 
@@ -8,4 +8,5 @@ returns-in-Some g c =
     let p = c.args.problem.now in
     let answer = c.args.answer.now in
     let parts = answer.certificate.parts in
-    fault_told g.F.Field.scalars p answer.set answer.certificate.kernel parts c.in-Some.fault c.requires.independent (subst (TellsFault p parts) c.in-Some.is c.in_ok-fault.ensures)
+    fault_told g.F.Field.scalars p answer.set answer.certificate.kernel parts c.in-Some.fault c.requires.independent
+    (subst (IsFaultIn p parts) c.in-Some.is c.in_ok-fault.ensures)

@@ -1,5 +1,5 @@
 use Rattle.std.proofs.Common.{◌≡◌, ℕ, List, [], ◌∷◌, subst, ◌∙◌}
-use Rattle.line_lexer.specs.Steps.{text_at}
+use Rattle.line_lexer.specs.Calls.{text_at}
 use Rattle.text_forms.specs.Gives.{Fails}
 use Rattle.graph_text.specs.Texts.{class_vertex}
 use Rattle.graph_text.proofs.Each.{each_stops}

@@ -1,5 +1,5 @@
 use Rattle.std.proofs.Common.{◌≡◌, length}
-use Rattle.line_lexer.specs.Steps.{SameLine}
+use Rattle.line_lexer.specs.Calls.{SameLine}
 use Rattle.graph_text.specs.Texts.{each, class_vertex}
 use Rattle.graph_text.proofs.names.other_class_vertices.Given as goal
 

@@ -2,7 +2,7 @@ use Rattle.std.proofs.Common.{◌++◌, ◌<◌, ◌≤◌, [], map, ap, ◌∙�
 use Rattle.std.proofs.lemmas.List.{length-map}
 use Rattle.line_lexer.specs.Words.{line_text}
 use Rattle.graph_text.specs.Spelled.{listed_words}
-use Rattle.graph_text.proofs.Pieces.{each_goes_on, each_stops, each_is_done, piece_at, refused, spelled_is}
+use Rattle.text_forms.proofs.Pieces.{each_goes_on, each_stops, each_is_done, piece_at, refused, spelled_is}
 use Rattle.graph_text.proofs.writers.put_lists.Goals as goal
 
 pub returns-in_err-put_listed : goal.returns-in_err-put_listed

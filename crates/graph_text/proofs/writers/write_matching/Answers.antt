@@ -1,8 +1,10 @@
 use Rattle.std.proofs.Common.{◌++◌, map, length}
 use Rattle.std.specs.Prelude.{codes}
 use Rattle.line_lexer.specs.Words.{line_text, spelled}
-use Rattle.graph_text.specs.Spelled.{counted_words, edge_words}
-use Rattle.graph_text.proofs.Pieces.{first_stops, rest_stops, refused, third_is_last, reply_pieces}
+use Rattle.graph_text.specs.Spelled.{edge_words}
+use Rattle.text_forms.specs.Spelling.{counted_words}
+use Rattle.graph_text.proofs.Pieces.{reply_pieces}
+use Rattle.text_forms.proofs.Pieces.{first_stops, rest_stops, refused, third_is_last}
 use Rattle.graph_text.proofs.writers.write_matching.Goals as goal
 
 pub returns-in_err-put_head : goal.returns-in_err-put_head

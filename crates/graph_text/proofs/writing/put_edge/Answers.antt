@@ -3,7 +3,8 @@ use Rattle.std.specs.Prelude.{codes}
 use Rattle.std.specs.Fmt.{decimal}
 use Rattle.graph_theory.specs.Walks.{edge_at}
 use Rattle.graph_text.specs.Spelled.{name_at}
-use Rattle.graph_text.proofs.Pieces.{first_stops, rest_stops, refused, then_rest, third_is_last, edge_pieces}
+use Rattle.graph_text.proofs.Pieces.{edge_pieces}
+use Rattle.text_forms.proofs.Pieces.{first_stops, rest_stops, refused, then_rest, third_is_last}
 use Rattle.graph_text.proofs.writing.put_edge.Goals as goal
 
 pub returns-in_err-put : goal.returns-in_err-put

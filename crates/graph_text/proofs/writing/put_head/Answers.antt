@@ -1,7 +1,7 @@
 use Rattle.std.proofs.Common.{refl}
 use Rattle.line_lexer.specs.Words.{line_text}
-use Rattle.graph_text.specs.Spelled.{counted_words}
-use Rattle.graph_text.proofs.Pieces.{first_stops, refused, second_is_last}
+use Rattle.text_forms.specs.Spelling.{counted_words}
+use Rattle.text_forms.proofs.Pieces.{first_stops, refused, second_is_last}
 use Rattle.graph_text.proofs.writing.put_head.Goals as goal
 
 pub returns-in_err-put_count : goal.returns-in_err-put_count

@@ -1,7 +1,7 @@
 use Rattle.std.proofs.Common.{[], ◌∷◌, map}
 use Rattle.std.specs.List.{flat_map}
 use Rattle.graph_text.specs.Spelled.{name_at}
-use Rattle.graph_text.proofs.Pieces.{first_stops, rest_stops, refused, third_is_last, line_pieces}
+use Rattle.text_forms.proofs.Pieces.{first_stops, rest_stops, refused, third_is_last, line_pieces}
 use Rattle.graph_text.proofs.writing.put_listed.Goals as goal
 
 pub returns-in_err-put : goal.returns-in_err-put

@@ -1,6 +1,6 @@
 use Rattle.std.proofs.Common.{[], ◌∷◌, refl}
 use Rattle.graph_text.specs.Spelled.{name_at}
-use Rattle.graph_text.proofs.Pieces.{first_stops, refused}
+use Rattle.text_forms.proofs.Pieces.{first_stops, refused}
 use Rattle.graph_text.proofs.writing.put_name.Goals as goal
 
 pub returns-in_err-put : goal.returns-in_err-put

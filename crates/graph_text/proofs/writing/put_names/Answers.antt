@@ -1,7 +1,7 @@
 use Rattle.std.proofs.Common.{◌∷◌, ◌<◌, [], map, refl, length, arith}
 use Rattle.std.proofs.lemmas.List.{length-map}
 use Rattle.graph_text.specs.Spelled.{name_at}
-use Rattle.graph_text.proofs.Pieces.{each_goes_on, each_stops, piece_at, refused}
+use Rattle.text_forms.proofs.Pieces.{each_goes_on, each_stops, piece_at, refused}
 use Rattle.graph_text.proofs.writing.put_names.Goals as goal
 
 pub returns-in_err-put_name : goal.returns-in_err-put_name

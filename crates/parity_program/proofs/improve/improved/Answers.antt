@@ -12,13 +12,15 @@ use Rattle.parity_program.specs.Shown.{shown}
 use Rattle.parity_program.specs.declared.reply.Reply.{Reply}
 
 -- what is told of the set, with the reply to it
-replied : {E : Type 0} (S : Scalars) (p : ParityProblem) (M : List ℕ) (improvement : Improvement) (r : Result Reply E) → TellsImprovement S p M improvement
+replied : {E : Type 0} (S : Scalars) (p : ParityProblem) (M : List ℕ) (improvement : Improvement) (r : Result Reply E)
+    → TellsImprovement S p M improvement
     → IfOk r (λ reply. shown reply ≡ improvement_reply improvement) → IfOk r (λ reply. IsImprovementReply S p M (shown reply))
 replied S p M improvement (Ok reply) told is = (improvement, told, is)
 replied S p M improvement (Err e) told is = tt
 
 -- what a step from an independent set says of it
-stepped : (S : Scalars) (p : ParityProblem) (M : List ℕ) (step : Option (List ℕ)) → IsIndependentSet S p M → TellsDirectStep S p M step → TellsImprovement S p M (of_step step)
+stepped : (S : Scalars) (p : ParityProblem) (M : List ℕ) (step : Option (List ℕ)) → IsIndependentSet S p M → TellsDirectStep S p M step
+    → TellsImprovement S p M (of_step step)
 stepped S p M None independent told = (independent, told)
 stepped S p M (Some N) independent told = (independent, told)
 
@@ -31,4 +33,5 @@ returns-in_ok-step-in-Ready g c =
 
 pub returns-in-Relation : goal.returns-in-Relation
 returns-in-Relation g c =
-    replied g.F.Field.scalars c.args.problem.now c.args.set.now (dependent c.in-Relation.relation) c.relation_reply.result (rw c.in-Relation.is at c.in_ok-matched.ensures) c.relation_reply.ensures
+    replied g.F.Field.scalars c.args.problem.now c.args.set.now (dependent c.in-Relation.relation) c.relation_reply.result
+    (rw c.in-Relation.is at c.in_ok-matched.ensures) c.relation_reply.ensures

@@ -1,4 +1,5 @@
-use Rattle.parity_text.proofs.CausalForms.{IsCausal-head, IsCausal-problem, IsCausal-answer, IsCausal-choice, RefusesCausally-problem_file, RefusesCausally-answer_file, RefusesCausally-choice_file}
+use Rattle.parity_text.proofs.CausalForms.{IsCausal-head, IsCausal-problem, IsCausal-answer, IsCausal-choice}
+use Rattle.parity_text.proofs.CausalForms.{RefusesCausally-problem_file, RefusesCausally-answer_file, RefusesCausally-choice_file}
 use Rattle.parity_text.proofs.laws.texts_are_causal.Goals as goal
 
 pub returns-clause-head : goal.returns-clause-head

@@ -1,4 +1,5 @@
-use Rattle.text_forms.proofs.Faults.{FaultsOnLine-word, FaultsOnLine-fixed, FaultsOnLine-number, FaultsOnLine-version, FaultsOnLine-counted, FaultsOnLine-counted_within, FaultsOnLine-times, FaultsOnLine-entry, FaultsOnLine-positions_above, FaultsOnLine-some_positions}
+use Rattle.text_forms.proofs.Faults.{FaultsOnLine-word, FaultsOnLine-fixed, FaultsOnLine-number, FaultsOnLine-version}
+use Rattle.text_forms.proofs.Faults.{FaultsOnLine-counted, FaultsOnLine-counted_within, FaultsOnLine-times, FaultsOnLine-entry, FaultsOnLine-positions_above, FaultsOnLine-some_positions}
 use Rattle.text_forms.specs.Places.{entry}
 use Rattle.text_forms.proofs.laws.places_fault_on_their_line.Goals as goal
 

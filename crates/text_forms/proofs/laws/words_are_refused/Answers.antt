@@ -1,4 +1,5 @@
-use Rattle.text_forms.proofs.Refusals.{fixed-count, ended-count, fixed-word, number-fault, version-fault, entry-range, position-range, position-order}
+use Rattle.text_forms.proofs.Refusals.{fixed-count, ended-count, fixed-word, number-fault, version-fault, entry-range, position-range}
+use Rattle.text_forms.proofs.Refusals.{position-order}
 use Rattle.text_forms.proofs.laws.words_are_refused.Goals as goal
 
 pub returns-clause-none : goal.returns-clause-none

@@ -1,0 +1,34 @@
+use Rattle.std.proofs.Common.{◌++◌, ◌<◌, ◌≤◌, [], map, ap, ◌∙◌, length, arith}
+use Rattle.parity_text.specs.Spelled.{pair_words}
+use Rattle.std.proofs.lemmas.List.{length-map}
+use Rattle.line_lexer.specs.Words.{line_text}
+use Rattle.text_forms.proofs.Pieces.{each_goes_on, each_stops, each_is_done, refused, spelled_is}
+use Rattle.parity_text.proofs.TextPieces.{pair_at}
+use Rattle.parity_text.proofs.text_writers.put_pairs.Goals as goal
+
+pub returns-in_err-put_pair : goal.returns-in_err-put_pair
+returns-in_err-put_pair g c =
+    let xs = c.args.problem.now.lines in
+    let within : c.loop-i.i < length xs = omega (arith, c.loop-i-test.true, c.len-i-end.ensures.value) in
+    let lt : c.loop-i.i < length (map pair_words xs) = rw (length-map xs pair_words) within in
+    let at = pair_at xs c.loop-i.i (map g.F.Field.number c.first.result.now)
+    (map g.F.Field.number c.second.result.now) within c.first.ensures.value c.second.ensures.value in
+    refused c.from_residual.result c.args.out.now.items _ _ _ (spelled_is (map pair_words xs)) c.from_residual.ensures.0
+    (each_stops line_text (map pair_words xs) c.loop-i.i [] _ _ _ _ lt at c.loop-i.invariant c.in_err-put_pair.ensures)
+
+pub loop-i-preserved : goal.loop-i-preserved
+loop-i-preserved g c =
+    let xs = c.args.problem.now.lines in
+    let within : c.loop-i.i < length xs = omega (arith, c.loop-i-test.true, c.len-i-end.ensures.value) in
+    let lt : c.loop-i.i < length (map pair_words xs) = rw (length-map xs pair_words) within in
+    let at = pair_at xs c.loop-i.i (map g.F.Field.number c.first.result.now)
+    (map g.F.Field.number c.second.result.now) within c.first.ensures.value c.second.ensures.value in
+    each_goes_on line_text (map pair_words xs) c.loop-i.i [] _ _ _ _ lt at c.loop-i.invariant c.in_ok-put_pair.ensures
+
+pub returns : goal.returns
+returns g c =
+    let xs = c.args.problem.now.lines in
+    let all : length xs ≤ c.loop-i.i = omega (arith, c.loop-i-test.false, c.len-i-end.ensures.value) in
+    let done : length (map pair_words xs) ≤ c.loop-i.i = rw (length-map xs pair_words) all in
+    each_is_done line_text (map pair_words xs) c.loop-i.i _ _ done c.loop-i.invariant
+    ∙ ap (λ t. c.args.out.now.items ++ t) (spelled_is (map pair_words xs))

@@ -1,0 +1,10 @@
+use Rattle.std.proofs.Common.{◌≡◌, ◌++◌, ◌∷◌, map, take}
+use Rattle.std.specs.Prelude.{codes}
+use Rattle.parity_text.specs.Spelled.{position_words}
+use Rattle.std.specs.List.{flat_map}
+use Rattle.line_lexer.specs.Words.{line_text}
+use Rattle.parity_text.proofs.text_writers.put_parts.Given as goal
+
+abbrev pub invariant-loop-i : goal.invariant-loop-i
+invariant-loop-i l = l.out.items ≡ l.initial.out.items
+    ++ flat_map line_text (take l.i (map (λ part. codes "part" ∷ position_words part) l.parts))

@@ -1,8 +1,0 @@
-use Rattle.std.proofs.Common.{◌≡◌, ◌++◌, map, take}
-use Rattle.parity_text.specs.Spelled.{pair_words}
-use Rattle.std.specs.List.{flat_map}
-use Rattle.line_lexer.specs.Words.{line_text}
-use Rattle.parity_text.proofs.writers.put_pairs.Given as goal
-
-abbrev pub invariant-loop-i : goal.invariant-loop-i
-invariant-loop-i g l = l.out.items ≡ l.initial.out.items ++ flat_map line_text (take l.i (map pair_words l.problem.lines))
