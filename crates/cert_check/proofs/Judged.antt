@@ -14,11 +14,11 @@ use Rattle.parity_lines.specs.Problems.{ParityProblem, IsProblem, vectors_at}
 use Rattle.parity_lines.specs.PartLists.{ArePartLists}
 use Rattle.parity_lines.specs.LineSets.{IsLargest}
 use Rattle.echelon.specs.Grown.{IsBasisOf}
-use Rattle.parity_lines.specs.Certificates.{bound, IsGoodAnswer}
+use Rattle.parity_lines.specs.Certificates.{bound, IsGoodAnswer, halves_over}
 use Rattle.parity_lines.proofs.Border.{vectors_at-vectors}
 use Rattle.echelon.proofs.Growing.{over_basis}
 use Rattle.parity_lines.proofs.EasyHalf.{good_answer_largest}
-use Rattle.cert_check.specs.Verdicts.{AreIndependent, IsCovered, IsDisjoint, IsFaultIn, IsVerdictOn, halves_over}
+use Rattle.cert_check.specs.Verdicts.{AreIndependent, IsCovered, IsDisjoint, IsFaultIn, IsVerdictOn}
 use Rattle.cert_check.specs.Judged.{IsJudged}
 use Rattle.cert_check.specs.declared.verdicts.Verdict.{Verdict}
 use Rattle.cert_check.specs.declared.verdicts.Verdict.TheVariants.{Yes, Dependent, KernelDependent, PartsMissing, PartsTwice, BoundOff}

@@ -1,9 +1,8 @@
 -- What a verdict says of an answer, with the reasons in their order.
-use Rattle.std.specs.Prelude.{◌≡◌, ◌≢◌, ℕ, ◌/◌, ◌<◌, ◌≤◌, List, Option, Some, None, length, sum_by}
+use Rattle.std.specs.Prelude.{◌≡◌, ◌≢◌, ℕ, ◌<◌, ◌≤◌, List, Option, Some, None, length}
 use Rattle.field_core.specs.Matrix.{Matrix}
 use Rattle.linear_algebra.specs.Scalars.{Scalars}
 use Rattle.linear_algebra.specs.Spans.{IsIndependent}
-use Rattle.linear_algebra.specs.Ranks.{rank_over}
 use Rattle.parity_lines.specs.Problems.{ParityProblem, vectors_at}
 use Rattle.parity_lines.specs.Certificates.{parts_with, bound, IsGoodAnswer}
 use Rattle.cert_check.specs.declared.verdicts.Verdict.{Verdict}
@@ -32,10 +31,6 @@ IsFaultIn p parts (Some (PartsMissing m)) = (m < length p.lines) × (parts_with 
 IsFaultIn p parts (Some (PartsTwice m)) =
     IsCovered p parts × (m < length p.lines) × (2 ≤ parts_with parts m) × ((k : ℕ) → k < m → parts_with parts k ≤ 1)
 IsFaultIn p parts (Some (BoundOff size b)) = ⊥
-
--- half the rank that each part adds to a list of vectors, rounded down
-abbrev pub halves_over : Scalars → ParityProblem → List (List ℕ) → List (List ℕ) → ℕ
-halves_over S p rows parts = sum_by (λ part. rank_over S p.dimension rows (vectors_at p part) / 2) parts
 
 -- the verdict is true of the set, the kernel and the parts, and no earlier reason applies
 abbrev pub IsVerdictOn : Scalars → ParityProblem → List ℕ → Matrix → List (List ℕ) → Verdict → Type 0

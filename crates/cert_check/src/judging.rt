@@ -2,12 +2,12 @@
 
 ghost use Rattle.std.specs.Prelude.{◌≡◌, ◌<◌, ◌≤◌, ◌↔◌, All, IfOk, length};
 ghost use Rattle.parity_lines.specs.LineSets.{IsLargest};
-ghost use Rattle.parity_lines.specs.Certificates.{IsGoodAnswer};
+ghost use Rattle.parity_lines.specs.Certificates.{IsGoodAnswer, halves_over};
 ghost use Rattle.parity_lines.specs.Problems.{vectors_at};
 ghost use Rattle.linear_algebra.specs.Vectors.{AreVectors};
 ghost use Rattle.linear_algebra.specs.Spans.{IsIndependent};
 ghost use Rattle.cert_check.specs.Judged.{IsJudged};
-ghost use Rattle.cert_check.specs.Verdicts.{IsCovered, IsDisjoint, IsFaultIn, IsVerdictOn, halves_over};
+ghost use Rattle.cert_check.specs.Verdicts.{IsCovered, IsDisjoint, IsFaultIn, IsVerdictOn};
 
 use crate::Verdict;
 use crate::counts::{count_parts, first_with};
