@@ -24,8 +24,8 @@ two-mean : (most : ℕ) (names : Names) (edges : EdgeNames) (classes : ClassName
     → (at : ℕ) (a b : List ℕ) (left rest : Names) (x : NamedGraph)
     → (two_ends most (named_graph names edges classes) at (a ∷ b ∷ left) ≡ Ok (x, rest))
     ↔ ((rest ≡ left)
-        × Fits most ((names ++ a ∷ []) ++ b ∷ []) (edges ++ (a, b) ∷ []) (members_of classes)
-        × (x ≡ named_graph ((names ++ a ∷ []) ++ b ∷ []) (edges ++ (a, b) ∷ []) classes))
+    × Fits most ((names ++ a ∷ []) ++ b ∷ []) (edges ++ (a, b) ∷ []) (members_of classes)
+    × (x ≡ named_graph ((names ++ a ∷ []) ++ b ∷ []) (edges ++ (a, b) ∷ []) classes))
 unfolding two_ends
 two-mean most names edges classes known fits room at a b left rest x =
     let g = named_graph names edges classes in
@@ -42,7 +42,7 @@ two-mean most names edges classes known fits room at a b left rest x =
     let with_edge = record g₂ { ends = g₂.ends ++ (n₁, n₂) ∷ [] } in
     let stays : number_in (first_appearances names₂) a ≡ n₁ = number_after a b names₁ (In-append_right a names (a ∷ []) (inl refl)) in
     let becomes : with_edge ≡ named_graph names₂ (edges ++ (a, b) ∷ []) classes =
-        ap (λ n. record g₂ { ends = g₂.ends ++ (n, n₂) ∷ [] }) (sym stays) ∙ one_more_edge names₂ edges classes a b in (
+    ap (λ n. record g₂ { ends = g₂.ends ++ (n, n₂) ∷ [] }) (sym stays) ∙ one_more_edge names₂ edges classes a b in (
       λ e.
           let p = bind_ok then at (vertex most g at (a ∷ b ∷ left)) (x, rest) e in
           let v = (one p.0.1 p.0.0).0 p.1 in
@@ -66,9 +66,9 @@ two-mean most names edges classes known fits room at a b left rest x =
           let short = (all-append (λ name. length name ≤ 32) names₁ (b ∷ [])).0 h.1.short in
           let few : length (first_appearances names₁) ≤ most = let l = h.1.few_vertices in let m = more_appear names₁ (b ∷ []) in omega (arith, l, m) in
           let v : vertex most g at (a ∷ b ∷ left) ≡ Ok ((g₁, n₁), b ∷ left) =
-              (one (b ∷ left) (g₁, n₁)).1 (refl, ((all-append (λ name. length name ≤ 32) names (a ∷ [])).0 short.0).1.0, few, refl) in
+          (one (b ∷ left) (g₁, n₁)).1 (refl, ((all-append (λ name. length name ≤ 32) names (a ∷ [])).0 short.0).1.0, few, refl) in
           let w : vertex most g₁ at (b ∷ left) ≡ Ok ((g₂, n₂), left) =
-              (vertex-means most names₁ edges classes known₁ few at b left left (g₂, n₂)).1 (refl, short.1.0, h.1.few_vertices, refl) in
+          (vertex-means most names₁ edges classes known₁ few at b left left (g₂, n₂)).1 (refl, short.1.0, h.1.few_vertices, refl) in
           rw (v, w) (ap₂ (λ (f : NamedGraph) (r : Names). Ok (f, r)) (becomes ∙ sym h.2) (sym h.0)),
     )
 
@@ -97,7 +97,7 @@ pub edge-mean : (most : ℕ) (names : Names) (edges : EdgeNames) (classes : Clas
     → Fits most names edges (members_of classes)
     → (at : ℕ) (words rest : Names) (x : NamedGraph) → (edge_within most (named_graph names edges classes) at words ≡ Ok (x, rest))
     ↔ ((a : List ℕ) × (b : List ℕ) × (words ≡ a ∷ b ∷ rest) × Fits most (names ++ a ∷ b ∷ []) (edges ++ (a, b) ∷ []) (members_of classes)
-        × (x ≡ named_graph (names ++ a ∷ b ∷ []) (edges ++ (a, b) ∷ []) classes))
+    × (x ≡ named_graph (names ++ a ∷ b ∷ []) (edges ++ (a, b) ∷ []) classes))
 unfolding edge_within
 edge-mean most names edges classes known fits at words rest x =
     let g = named_graph names edges classes in
@@ -109,17 +109,21 @@ edge-mean most names edges classes known fits at words rest x =
           let all = sym (append_assoc names (h.0 ∷ []) (h.1 ∷ [])) in
           let longer = edges ++ (h.0, h.1) ∷ [] in
           let both = (two-mean most names edges classes known fits room at h.0 h.1 rest rest x).1
-              (refl, subst (λ ns. Fits most ns longer (members_of classes)) all h.3, h.4 ∙ ap (λ ns. named_graph ns longer classes) all) in
+          (refl, subst (λ ns. Fits most ns longer (members_of classes)) all h.3, h.4 ∙ ap (λ ns. named_graph ns longer classes) all) in
           within.1 (lt-ltb (length g.ends) 512 (omega (arith, room, as_many)), ap (two_ends most g at) h.2 ∙ both),
     )
   where
     from : (words : Names) → length edges < 512 → two_ends most (named_graph names edges classes) at words ≡ Ok (x, rest)
         → (a : List ℕ) × (b : List ℕ) × (words ≡ a ∷ b ∷ rest) × Fits most (names ++ a ∷ b ∷ []) (edges ++ (a, b) ∷ []) (members_of classes)
-            × (x ≡ named_graph (names ++ a ∷ b ∷ []) (edges ++ (a, b) ∷ []) classes)
+        × (x ≡ named_graph (names ++ a ∷ b ∷ []) (edges ++ (a, b) ∷ []) classes)
     from [] room e = absurd (none-given most (named_graph names edges classes) at x rest e)
     from (a ∷ []) room e = absurd (one-given most names edges classes known fits.few_vertices at a x rest e)
     from (a ∷ b ∷ left) room e =
         let h = (two-mean most names edges classes known fits room at a b left rest x).0 e in
-        let all = append_assoc names (a ∷ []) (b ∷ []) in
-        (a, b, ap (λ r. a ∷ b ∷ r) (sym h.0), subst (λ ns. Fits most ns (edges ++ (a, b) ∷ []) (members_of classes)) all h.1,
-            h.2 ∙ ap (λ ns. named_graph ns (edges ++ (a, b) ∷ []) classes) all)
+        let all = append_assoc names (a ∷ []) (b ∷ []) in (
+          a,
+          b,
+          ap (λ r. a ∷ b ∷ r) (sym h.0),
+          subst (λ ns. Fits most ns (edges ++ (a, b) ∷ []) (members_of classes)) all h.1,
+          h.2 ∙ ap (λ ns. named_graph ns (edges ++ (a, b) ∷ []) classes) all,
+        )

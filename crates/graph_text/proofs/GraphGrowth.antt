@@ -130,9 +130,9 @@ one_more_name names edges classes name known = go (is_among (first_appearances n
         let ends = numbers_stay seen (name ∷ []) edges (λ f i. (In-appearing f.0 names (known.ends f i).0, In-appearing f.1 names (known.ends f i).1)) in
         let none = in_no_class classes name (λ i. new (known.members name i)) in
         sym (
-          ap (of_different edges classes) (appears_first name names new)
-          ∙ ap₂ (λ es ks. record { names = seen ++ name ∷ []; ends = es; classes = ks }) ends
-          (map-append (class_of classes) seen (name ∷ []) ∙ ap (λ k. map (class_of classes) seen ++ k ∷ []) none)
+        ap (of_different edges classes) (appears_first name names new)
+        ∙ ap₂ (λ es ks. record { names = seen ++ name ∷ []; ends = es; classes = ks }) ends
+        (map-append (class_of classes) seen (name ∷ []) ∙ ap (λ k. map (class_of classes) seen ++ k ∷ []) none)
         )
 
 -- one more edge
@@ -184,13 +184,13 @@ one_more_member names edges classes last name there new =
     let f' = class_of (classes ++ (last ++ name ∷ []) ∷ []) in
     let there' : is_among (last ++ name ∷ []) name ≡ true = In-among (last ++ name ∷ []) name (In-append_right name last (name ∷ []) (inl refl)) in
     let now : f' name ≡ Some (length classes) =
-        one_more_class classes (last ++ name ∷ []) name
-        ∙ ap (λ k. first_or k (cond (is_among (last ++ name ∷ []) name) (Some (length classes)) None)) (in_no_class classes name new)
-        ∙ ap (λ b. cond b (Some (length classes)) None) there' in
+    one_more_class classes (last ++ name ∷ []) name
+    ∙ ap (λ k. first_or k (cond (is_among (last ++ name ∷ []) name) (Some (length classes)) None)) (in_no_class classes name new)
+    ∙ ap (λ b. cond b (Some (length classes)) None) there' in
     let same : (x : List ℕ) → x ≢ name → f x ≡ f' x = λ x other.
-        one_more_class classes last x
-        ∙ ap (λ b. first_or (class_of classes x) (cond b (Some (length classes)) None)) (sym (also last x other))
-        ∙ sym (one_more_class classes (last ++ name ∷ []) x) in
+    one_more_class classes last x
+    ∙ ap (λ b. first_or (class_of classes x) (cond b (Some (length classes)) None)) (sym (also last x other))
+    ∙ sym (one_more_class classes (last ++ name ∷ []) x) in
     ap (λ ks. record { names = seen; ends = numbers seen edges; classes = ks })
     (ap (slice_set (map f seen) (number_in seen name)) (sym now) ∙ put_at_number f f' name seen (distinct-appearing names) (In-appearing name names there) same)
   where

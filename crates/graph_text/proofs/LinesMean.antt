@@ -50,7 +50,7 @@ module _ (most : ℕ) (names : Names) (edges : EdgeNames) (classes : ClassNames)
       let gives = made-ok made (some (free_vertex most) (named_graph names edges classes)) at ts [] s in
       let mean = vertices-mean most names edges classes known fits at ts [] in
       of_both (λ es cs. (vertex_names most (begun names edges classes) at ts ≡ Ok (s, []))
-          ↔ ((0 < length ts) × Fits most (names ++ ts) es (members_of cs) × (s ≡ begun (names ++ ts) es cs)))
+      ↔ ((0 < length ts) × Fits most (names ++ ts) es (members_of cs) × (s ≡ begun (names ++ ts) es cs)))
       edges (edges ++ []) classes (classes ++ []) (sym (append-nil edges)) (sym (append-nil classes)) (
         λ e. let h = gives.0 e in let m = (mean h.0).0 h.1 in (m.0, m.2, h.2 ∙ ap made m.3),
         λ h. gives.1 (named_graph (names ++ ts) edges classes, (mean (named_graph (names ++ ts) edges classes)).1 (h.0, refl, h.1, refl), h.2),
@@ -58,15 +58,15 @@ module _ (most : ℕ) (names : Names) (edges : EdgeNames) (classes : ClassNames)
 
   edge_names-mean : (at : ℕ) (ts : Names) (s : Begun) → (edge_names most (begun names edges classes) at ts ≡ Ok (s, []))
       ↔ ((a : List ℕ) × (b : List ℕ) × (ts ≡ a ∷ b ∷ []) × Fits most (names ++ a ∷ b ∷ []) (edges ++ (a, b) ∷ []) (members_of (classes ++ []))
-          × (s ≡ begun (names ++ a ∷ b ∷ []) (edges ++ (a, b) ∷ []) (classes ++ [])))
+      × (s ≡ begun (names ++ a ∷ b ∷ []) (edges ++ (a, b) ∷ []) (classes ++ [])))
   unfolding edge_names
   edge_names-mean at ts s =
       let made : NamedGraph → Begun = λ g. record { graph = g; classes = length classes } in
       let gives = made-ok made (edge_within most (named_graph names edges classes)) at ts [] s in
       let mean = edge-mean most names edges classes known fits at ts [] in
       subst (λ cs. (edge_names most (begun names edges classes) at ts ≡ Ok (s, []))
-          ↔ ((a : List ℕ) × (b : List ℕ) × (ts ≡ a ∷ b ∷ []) × Fits most (names ++ a ∷ b ∷ []) (edges ++ (a, b) ∷ []) (members_of cs)
-              × (s ≡ begun (names ++ a ∷ b ∷ []) (edges ++ (a, b) ∷ []) cs)))
+      ↔ ((a : List ℕ) × (b : List ℕ) × (ts ≡ a ∷ b ∷ []) × Fits most (names ++ a ∷ b ∷ []) (edges ++ (a, b) ∷ []) (members_of cs)
+      × (s ≡ begun (names ++ a ∷ b ∷ []) (edges ++ (a, b) ∷ []) cs)))
       (sym (append-nil classes)) (
         λ e. let h = gives.0 e in let m = (mean h.0).0 h.1 in (m.0, m.1, m.2, m.3, h.2 ∙ ap made m.4),
         λ h. let g = named_graph (names ++ h.0 ∷ h.1 ∷ []) (edges ++ (h.0, h.1) ∷ []) classes in gives.1 (g, (mean g).1 (h.0, h.1, h.2, h.3, refl), h.4),
@@ -80,9 +80,9 @@ module _ (most : ℕ) (names : Names) (edges : EdgeNames) (classes : ClassNames)
       let gives = made-ok made (some (class_vertex most (length classes)) (named_graph names edges classes)) at ts [] s in
       let mean = class-mean most names edges classes known fits at ts [] in
       let becomes : made (named_graph (names ++ ts) edges (classes ++ ts ∷ [])) ≡ begun (names ++ ts) edges (classes ++ ts ∷ []) =
-          ap (λ k. record { graph = named_graph (names ++ ts) edges (classes ++ ts ∷ []); classes = k }) (sym (length_push classes ts)) in
+      ap (λ k. record { graph = named_graph (names ++ ts) edges (classes ++ ts ∷ []); classes = k }) (sym (length_push classes ts)) in
       subst (λ es. (class_names most (begun names edges classes) at ts ≡ Ok (s, []))
-          ↔ ((0 < length ts) × Fits most (names ++ ts) es (members_of (classes ++ ts ∷ [])) × (s ≡ begun (names ++ ts) es (classes ++ ts ∷ []))))
+      ↔ ((0 < length ts) × Fits most (names ++ ts) es (members_of (classes ++ ts ∷ [])) × (s ≡ begun (names ++ ts) es (classes ++ ts ∷ []))))
       (sym (append-nil edges)) (
         λ e. let h = gives.0 e in let m = (mean h.0).0 h.1 in (m.0, m.2, h.2 ∙ ap made m.3 ∙ becomes),
         λ h. let g = named_graph (names ++ ts) edges (classes ++ ts ∷ []) in gives.1 (g, (mean g).1 (h.0, refl, h.1, refl), h.2 ∙ sym becomes),
@@ -91,7 +91,7 @@ module _ (most : ℕ) (names : Names) (edges : EdgeNames) (classes : ClassNames)
   by_word : (at : ℕ) (w : List ℕ) (ts : Names) (s : Begun) (a b c : Bool) → bytes_eq w (codes "vertex") ≡ a → bytes_eq w (codes "edge") ≡ b
       → bytes_eq w (codes "class") ≡ c
       → cond a (vertex_names most (begun names edges classes)) (cond b (edge_names most (begun names edges classes))
-          (cond c (class_names most (begun names edges classes)) (fault Word))) at ts ≡ Ok (s, [])
+      (cond c (class_names most (begun names edges classes)) (fault Word))) at ts ≡ Ok (s, [])
       → SaysOne most names edges classes (w ∷ ts) s
   by_word at w ts s true b c first _ _ e =
       let h = (vertex_names-mean at ts s).0 e in

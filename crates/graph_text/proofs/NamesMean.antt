@@ -56,17 +56,17 @@ pub vertex-means : (most : ℕ) (names : Names) (edges : EdgeNames) (classes : C
     → (at : ℕ) (name : List ℕ) (left rest : Names) (x : NamedGraph × ℕ)
     → (vertex most (named_graph names edges classes) at (name ∷ left) ≡ Ok (x, rest))
     ↔ ((rest ≡ left) × (length name ≤ 32) × (length (first_appearances (names ++ name ∷ [])) ≤ most)
-        × (x ≡ (named_graph (names ++ name ∷ []) edges classes, number_in (first_appearances (names ++ name ∷ [])) name)))
+    × (x ≡ (named_graph (names ++ name ∷ []) edges classes, number_in (first_appearances (names ++ name ∷ [])) name)))
 unfolding vertex spelled_vertex named
 vertex-means most names edges classes known fits at name left rest x =
     let g = named_graph names edges classes in
     let seen = first_appearances names in
     let tests = tested {T = List ℕ} {A = NamedGraph × ℕ} (leb (length name) 32) (is_among seen name || ltb (length seen) most)
-        (with_name g name, number_in (with_name g name).names name) x Vertices NameBytes (most + 1) (length name) at left rest in
+    (with_name g name, number_in (with_name g name).names name) x Vertices NameBytes (most + 1) (length name) at left rest in
     let may = room most names name fits in
     let becomes : (with_name g name, number_in (with_name g name).names name)
-        ≡ (named_graph (names ++ name ∷ []) edges classes, number_in (first_appearances (names ++ name ∷ [])) name) =
-        ap (λ (h : NamedGraph). (h, number_in h.names name)) (one_more_name names edges classes name known) in (
+    ≡ (named_graph (names ++ name ∷ []) edges classes, number_in (first_appearances (names ++ name ∷ [])) name) =
+    ap (λ (h : NamedGraph). (h, number_in h.names name)) (one_more_name names edges classes name known) in (
       λ e. let t = tests.0 e in (t.2, leb-true (length name) 32 t.0, may.0 t.1, t.3 ∙ becomes),
       λ h. tests.1 (le-leb (length name) 32 h.1, may.1 h.2, h.0, h.3 ∙ sym becomes),
     )
@@ -90,9 +90,11 @@ free-means most names edges classes known fits at name left rest x =
       λ e.
           let parts = bind_ok next at (vertex most g at (name ∷ left)) (x, rest) e in
           let v = (one parts.0.1 parts.0.0).0 parts.1 in
-          let same = same_given (parts.0.0.0, parts.0.1) (x, rest) parts.2 in
-          (sym same.1 ∙ v.0, fits-name most names edges (members_of classes) (members_of classes) name fits v.1 v.2 fits.apart,
-              sym same.0 ∙ ap (λ (p : NamedGraph × ℕ). p.0) v.3),
+          let same = same_given (parts.0.0.0, parts.0.1) (x, rest) parts.2 in (
+            sym same.1 ∙ v.0,
+            fits-name most names edges (members_of classes) (members_of classes) name fits v.1 v.2 fits.apart,
+            sym same.0 ∙ ap (λ (p : NamedGraph × ℕ). p.0) v.3,
+          ),
       λ h.
           let found : NamedGraph × ℕ = (named_graph (names ++ name ∷ []) edges classes, number_in (first_appearances (names ++ name ∷ [])) name) in
           let v : vertex most g at (name ∷ left) ≡ Ok (found, left) = (one left found).1 (refl, fits-short most names edges (members_of classes) name h.1, h.1.few_vertices, refl) in
@@ -115,13 +117,13 @@ vertices-mean most names edges classes known fits at ts rest x =
       front = λ said more. fits-front most (names ++ said) more (names ++ (said ++ more)) edges [] edges (members_of classes) [] (members_of classes)
           (sym (append_assoc names said more)) (sym (append-nil edges)) (sym (append-nil (members_of classes)));
       one = λ said at t left rest x fine. subst (λ all. (free_vertex most (state said) at (t ∷ left) ≡ Ok (x, rest))
-              ↔ ((rest ≡ left) × Fits most all edges (members_of classes) × (x ≡ named_graph all edges classes)))
+          ↔ ((rest ≡ left) × Fits most all edges (members_of classes) × (x ≡ named_graph all edges classes)))
           (append_assoc names said (t ∷ [])) (free-means most (names ++ said) edges classes (known-more names said edges classes known) fine at t left rest x);
       due = λ x y at rest. free-due most x y at rest;
     } in
     let start = append-nil names in
     subst (λ (first : Names). (some (free_vertex most) (named_graph first edges classes) at ts ≡ Ok (x, rest))
-        ↔ ((0 < length ts) × (rest ≡ []) × Fine ts × (x ≡ state ts))) start
+    ↔ ((0 < length ts) × (rest ≡ []) × Fine ts × (x ≡ state ts))) start
     (some-items (free_vertex most) state Fine takes at ts rest x (subst (λ first. Fits most first edges (members_of classes)) (sym start) fits))
 
 -- ---- the vertices of a class
@@ -163,7 +165,7 @@ put-means names edges classes last name there None is at left rest x =
     let all = classes ++ last ∷ [] in
     let new : ¬ (In name (members_of all)) = λ i. let k : class_of all name ≡ Some (place all name) = in_a_class all name i in absurd (cc (is, k)) in
     let earlier : ¬ (In name (members_of classes)) = λ i.
-        new (subst (In name) (sym (flat_map-append (λ members. members) classes (last ∷ []))) (In-append_left name (members_of classes) (members_of (last ∷ [])) i)) in
+    new (subst (In name) (sym (flat_map-append (λ members. members) classes (last ∷ []))) (In-append_left name (members_of classes) (members_of (last ∷ [])) i)) in
     let with_class = record (named_graph names edges all) { classes = slice_set (named_graph names edges all).classes (number_in (first_appearances names) name) (Some (length classes)) } in
     let put = one_more_member names edges classes last name there earlier in (
       λ e. let same = same_given (with_class, left) (x, rest) e in (sym same.1, new, sym same.0 ∙ put),
@@ -175,7 +177,7 @@ class-means : (most : ℕ) (names : Names) (edges : EdgeNames) (classes : ClassN
     → (at : ℕ) (name : List ℕ) (left rest : Names) (x : NamedGraph)
     → (class_vertex most (length classes) (named_graph names edges (classes ++ last ∷ [])) at (name ∷ left) ≡ Ok (x, rest))
     ↔ ((rest ≡ left) × Fits most (names ++ name ∷ []) edges (members_of (classes ++ (last ++ name ∷ []) ∷ []))
-        × (x ≡ named_graph (names ++ name ∷ []) edges (classes ++ (last ++ name ∷ []) ∷ [])))
+    × (x ≡ named_graph (names ++ name ∷ []) edges (classes ++ (last ++ name ∷ []) ∷ [])))
 unfolding class_vertex
 class-means most names edges classes last known fits at name left rest x =
     let all = classes ++ last ∷ [] in
@@ -190,13 +192,16 @@ class-means most names edges classes last known fits at name left rest x =
       λ e.
           let parts = bind_ok next at (vertex most g at (name ∷ left)) (x, rest) e in
           let v = (one parts.0.1 parts.0.0).0 parts.1 in
-          let put = (puts rest x).0 (of_both (λ v r. next v at r ≡ Ok (x, rest)) parts.0.0 (named_graph more edges all, number) parts.0.1 left v.3 v.0 parts.2) in
-          (put.0, fits-name most names edges (members_of all) _ name fits v.1 v.2
-              (subst IsDistinct (sym grown) ((distinct_push (members_of all) name).1 (fits.apart, put.1))), put.2),
+          let put = (puts rest x).0 (of_both (λ v r. next v at r ≡ Ok (x, rest)) parts.0.0 (named_graph more edges all, number) parts.0.1 left v.3 v.0 parts.2) in (
+            put.0,
+            fits-name most names edges (members_of all) _ name fits v.1 v.2
+                (subst IsDistinct (sym grown) ((distinct_push (members_of all) name).1 (fits.apart, put.1))),
+            put.2,
+          ),
       λ h.
           let apart = (distinct_push (members_of all) name).0 (subst IsDistinct grown h.1.apart) in
           let v : vertex most g at (name ∷ left) ≡ Ok ((named_graph more edges all, number), left) =
-              (one left (named_graph more edges all, number)).1 (refl, fits-short most names edges _ name h.1, h.1.few_vertices, refl) in
+          (one left (named_graph more edges all, number)).1 (refl, fits-short most names edges _ name h.1, h.1.few_vertices, refl) in
           rw v ((puts rest x).1 (h.0, apart.1, h.2)),
     )
 
@@ -216,13 +221,13 @@ class-mean most names edges classes known fits at ts rest x =
       front = λ said more. fits-front most (names ++ said) more (names ++ (said ++ more)) edges [] edges (members_of (classes ++ said ∷ [])) more (members_of (classes ++ (said ++ more) ∷ []))
           (sym (append_assoc names said more)) (sym (append-nil edges)) (members-grow classes said more);
       one = λ said at t left rest x fine. subst (λ all. (class_vertex most (length classes) (state said) at (t ∷ left) ≡ Ok (x, rest))
-              ↔ ((rest ≡ left) × Fits most all edges (members_of (classes ++ (said ++ t ∷ []) ∷ [])) × (x ≡ named_graph all edges (classes ++ (said ++ t ∷ []) ∷ []))))
+          ↔ ((rest ≡ left) × Fits most all edges (members_of (classes ++ (said ++ t ∷ []) ∷ [])) × (x ≡ named_graph all edges (classes ++ (said ++ t ∷ []) ∷ []))))
           (append_assoc names said (t ∷ [])) (class-means most (names ++ said) edges classes said (known-class names said edges classes known) fine at t left rest x);
       due = λ x y at rest. class-due most (length classes) x y at rest;
     } in
     let start : state [] ≡ named_graph names edges classes = class_begins (names ++ []) edges classes ∙ ap (λ ns. named_graph ns edges classes) (append-nil names) in
     subst (λ (first : NamedGraph). (some (class_vertex most (length classes)) first at ts ≡ Ok (x, rest))
-        ↔ ((0 < length ts) × (rest ≡ []) × Fine ts × (x ≡ state ts))) start
+    ↔ ((0 < length ts) × (rest ≡ []) × Fine ts × (x ≡ state ts))) start
     (some-items (class_vertex most (length classes)) state Fine takes at ts rest x
     (record {
       short = subst (AllByRecursion (λ name. length name ≤ 32)) (sym (append-nil names)) fits.short;

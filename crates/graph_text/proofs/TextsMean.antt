@@ -200,7 +200,7 @@ graph-limits most said within =
     let known = known-of said in
     let numbered : List ℕ × List ℕ → ℕ × ℕ = λ e. (number_in seen e.0, number_in seen e.1) in
     let stands : (name : List ℕ) → In name (names_of said) → number_in seen name < length seen =
-        λ name i. (number_stands name seen (In-appearing name (names_of said) i)).0 in (
+    λ name i. (number_stands name seen (In-appearing name (names_of said) i)).0 in (
       record {
         different = distinct-pairs seen (distinct-appearing (names_of said));
         within = all-In (λ (e : ℕ × ℕ). (e.0 < length seen) × (e.1 < length seen)) _ (λ e i.
@@ -211,8 +211,8 @@ graph-limits most said within =
       },
       within.few_vertices,
       let few = within.few_edges in
-      let as_many = length-map (edges_of said) numbered in
-      omega (arith, few, as_many),
+          let as_many = length-map (edges_of said) numbered in
+          omega (arith, few, as_many),
       all-In (λ name. length name ≤ 32) seen (λ name i. all_in (names_of said) within.short name (appearing-In name (names_of said) i)),
     )
   where
