@@ -43,7 +43,7 @@ returns-in-Some-clause-told g c =
     let S = g.F.Field.scalars in
     let q = c.loop-classes.family in
     let told = subst (λ found. MatchOption found (((L : IsField S) → IsTurn S L c.grow.new.family c.grow.new.table)
-        × (pairs_below (length q.problem.lines) (akin_at c.grow.new.table) < pairs_below (length q.problem.lines) (akin_at c.loop-classes.table)))
+    × (pairs_below (length q.problem.lines) (akin_at c.grow.new.table) < pairs_below (length q.problem.lines) (akin_at c.loop-classes.table)))
     (IsSetOf S q.problem (suc (size_of q)))) c.in-Some.is c.in_ok-larger.ensures.found in
     ended_before S c.args.family.now q c.len-members.ensures.family c.loop-classes.invariant.grown (Larger c.in-Some.larger) told
 
@@ -52,7 +52,7 @@ loop-classes-preserved g c =
     let S = g.F.Field.scalars in
     let q = c.loop-classes.family in
     let told = subst (λ found. MatchOption found (((L : IsField S) → IsTurn S L c.grow.new.family c.grow.new.table)
-        × (pairs_below (length q.problem.lines) (akin_at c.grow.new.table) < pairs_below (length q.problem.lines) (akin_at c.loop-classes.table)))
+    × (pairs_below (length q.problem.lines) (akin_at c.grow.new.table) < pairs_below (length q.problem.lines) (akin_at c.loop-classes.table)))
     (IsSetOf S q.problem (suc (size_of q)))) c.in_default.is c.in_ok-larger.ensures.found in
     record {
       grown = grown_trans S c.args.family.now q c.grow.new.family c.loop-classes.invariant.grown c.grow.ensures.grows;
@@ -64,7 +64,7 @@ loop-classes-smaller g c =
     let S = g.F.Field.scalars in
     let q = c.loop-classes.family in
     let told = subst (λ found. MatchOption found (((L : IsField S) → IsTurn S L c.grow.new.family c.grow.new.table)
-        × (pairs_below (length q.problem.lines) (akin_at c.grow.new.table) < pairs_below (length q.problem.lines) (akin_at c.loop-classes.table)))
+    × (pairs_below (length q.problem.lines) (akin_at c.grow.new.table) < pairs_below (length q.problem.lines) (akin_at c.loop-classes.table)))
     (IsSetOf S q.problem (suc (size_of q)))) c.in_default.is c.in_ok-larger.ensures.found in
     subst (λ (p : ParityProblem). pairs_below (length p.lines) (akin_at c.grow.new.table) < pairs_below (length q.problem.lines) (akin_at c.loop-classes.table))
     (sym c.grow.ensures.grows.problem) told.1
