@@ -108,8 +108,8 @@ spread_of-requires-clause-large g c =
     subst (λ (p : ParityProblem). class_count labels d M + class_count labels d M + 2 ≤ rank S p.dimension (vectors_at p class)) (sym c.requires.problem)
     (large_counts S F f.problem labels long M class d iM.line_set.within q)
 
-pub returns-in_ok-copied-in-Wide : goal.returns-in_ok-copied-in-Wide
-returns-in_ok-copied-in-Wide g c L =
+pub returns-in-Wide : goal.returns-in-Wide
+returns-in-Wide g c L =
     let S = g.F.Field.scalars in
     let F = g.met.F.Field.lawful in
     let f = c.args.family.now in
@@ -127,9 +127,9 @@ returns-in_ok-copied-in-Wide g c L =
     let long = c.requires.classes.told.long in
     let b : d < length f.problem.lines = omega (arith, q.within, long) in
     let iM : IsIndependentSet S f.problem M = subst (λ (p : ParityProblem). IsIndependentSet S p M) c.requires.problem c.set-set.ensures.independent in
-    let x = c.in_ok-line.field-0 in
+    let x = c.in_ok-spread_of.field-0 in
     let told = subst (TellsSpread S L f.problem labels class d o M) c.in-Wide.is
-    (subst (λ (p : ParityProblem). TellsSpread S L p labels class d o M x) c.requires.problem (c.in_ok-line.ensures L)) in
+    (subst (λ (p : ParityProblem). TellsSpread S L p labels class d o M x) c.requires.problem (c.in_ok-spread_of.ensures L)) in
     subst (IsGrowth S L f.problem (size_of f) t) (sym (c.in_ok-copied-in-Wide.ensures ∙ c.set.ensures.value))
     (growth_of_spread S L f P k t (c.requires.turn L) labels c.requires.classes d M (record { independent = iM; size = c.requires.size })
     (subst (λ H. IsWideOn S L f.problem H M) q.is told))
@@ -200,7 +200,7 @@ crossing_of-requires-clause-line_within g c =
     let u = c.in-Stray.part in
     let stray : (G : IsField S) → IsStrayVector S G f.problem labels class d o M j v u =
     λ G. subst (TellsSpread S G f.problem labels class d o M) c.in-Stray.is
-    (subst (λ (p : ParityProblem). TellsSpread S G p labels class d o M c.in_ok-line.field-0) c.requires.problem (c.in_ok-line.ensures G)) in
+    (subst (λ (p : ParityProblem). TellsSpread S G p labels class d o M c.in_ok-spread_of.field-0) c.requires.problem (c.in_ok-spread_of.ensures G)) in
     (stray F).within
 
 pub crossing_of-requires-clause-apart : goal.crossing_of-requires-clause-apart
@@ -227,7 +227,7 @@ crossing_of-requires-clause-apart g c =
     let u = c.in-Stray.part in
     let stray : (G : IsField S) → IsStrayVector S G f.problem labels class d o M j v u =
     λ G. subst (TellsSpread S G f.problem labels class d o M) c.in-Stray.is
-    (subst (λ (p : ParityProblem). TellsSpread S G p labels class d o M c.in_ok-line.field-0) c.requires.problem (c.in_ok-line.ensures G)) in
+    (subst (λ (p : ParityProblem). TellsSpread S G p labels class d o M c.in_ok-spread_of.field-0) c.requires.problem (c.in_ok-spread_of.ensures G)) in
     stray_separated S F f P k t h labels c.requires.classes class M o v u d j b q.own z (stray F)
 
 pub crossing_of-requires-clause-missed : goal.crossing_of-requires-clause-missed
@@ -275,7 +275,7 @@ crossing_of-requires-clause-part_long g c =
     let u = c.in-Stray.part in
     let stray : (G : IsField S) → IsStrayVector S G f.problem labels class d o M j v u =
     λ G. subst (TellsSpread S G f.problem labels class d o M) c.in-Stray.is
-    (subst (λ (p : ParityProblem). TellsSpread S G p labels class d o M c.in_ok-line.field-0) c.requires.problem (c.in_ok-line.ensures G)) in
+    (subst (λ (p : ParityProblem). TellsSpread S G p labels class d o M c.in_ok-spread_of.field-0) c.requires.problem (c.in_ok-spread_of.ensures G)) in
     c.as_slice.ensures.len ∙ (stray F).parted.part.length_is
 
 pub crossing_of-requires-clause-part_not_zero : goal.crossing_of-requires-clause-part_not_zero
@@ -302,7 +302,7 @@ crossing_of-requires-clause-part_not_zero g c =
     let u = c.in-Stray.part in
     let stray : (G : IsField S) → IsStrayVector S G f.problem labels class d o M j v u =
     λ G. subst (TellsSpread S G f.problem labels class d o M) c.in-Stray.is
-    (subst (λ (p : ParityProblem). TellsSpread S G p labels class d o M c.in_ok-line.field-0) c.requires.problem (c.in_ok-line.ensures G)) in
+    (subst (λ (p : ParityProblem). TellsSpread S G p labels class d o M c.in_ok-spread_of.field-0) c.requires.problem (c.in_ok-spread_of.ensures G)) in
     λ e. (stray F).not_zero (sym c.as_slice.ensures.value ∙ e)
 
 pub returns-in-Larger : goal.returns-in-Larger
@@ -329,10 +329,10 @@ returns-in-Larger g c L =
     let u = c.in-Stray.part in
     let stray : (G : IsField S) → IsStrayVector S G f.problem labels class d o M j v u =
     λ G. subst (TellsSpread S G f.problem labels class d o M) c.in-Stray.is
-    (subst (λ (p : ParityProblem). TellsSpread S G p labels class d o M c.in_ok-line.field-0) c.requires.problem (c.in_ok-line.ensures G)) in
-    let x = c.in_ok-larger.field-0 in
+    (subst (λ (p : ParityProblem). TellsSpread S G p labels class d o M c.in_ok-spread_of.field-0) c.requires.problem (c.in_ok-spread_of.ensures G)) in
+    let x = c.in_ok-larger-in-Stray.field-0 in
     let crossed : IsCrossing S f.problem (size_of f) d j o u x =
-    subst (λ y. IsCrossing S f.problem (size_of f) d j o y x) c.as_slice.ensures.value c.in_ok-larger.ensures in
+    subst (λ y. IsCrossing S f.problem (size_of f) d j o y x) c.as_slice.ensures.value c.in_ok-larger-in-Stray.ensures in
     subst (TellsCrossing S f.problem (size_of f) o crossed.first u crossed.second) c.in-Larger.is crossed.tells
 
 pub returns-in-First : goal.returns-in-First
@@ -359,10 +359,10 @@ returns-in-First g c L =
     let u = c.in-Stray.part in
     let stray : (G : IsField S) → IsStrayVector S G f.problem labels class d o M j v u =
     λ G. subst (TellsSpread S G f.problem labels class d o M) c.in-Stray.is
-    (subst (λ (p : ParityProblem). TellsSpread S G p labels class d o M c.in_ok-line.field-0) c.requires.problem (c.in_ok-line.ensures G)) in
-    let x = c.in_ok-larger.field-0 in
+    (subst (λ (p : ParityProblem). TellsSpread S G p labels class d o M c.in_ok-spread_of.field-0) c.requires.problem (c.in_ok-spread_of.ensures G)) in
+    let x = c.in_ok-larger-in-Stray.field-0 in
     let crossed : IsCrossing S f.problem (size_of f) d j o u x =
-    subst (λ y. IsCrossing S f.problem (size_of f) d j o y x) c.as_slice.ensures.value c.in_ok-larger.ensures in
+    subst (λ y. IsCrossing S f.problem (size_of f) d j o y x) c.as_slice.ensures.value c.in_ok-larger-in-Stray.ensures in
     crossed_first S L f P k t (c.requires.turn L) labels c.requires.classes class M o v u d j b q.own z (stray L) x crossed c.in-First.set c.in-First.is
 
 pub returns-in-Second : goal.returns-in-Second
@@ -389,10 +389,10 @@ returns-in-Second g c L =
     let u = c.in-Stray.part in
     let stray : (G : IsField S) → IsStrayVector S G f.problem labels class d o M j v u =
     λ G. subst (TellsSpread S G f.problem labels class d o M) c.in-Stray.is
-    (subst (λ (p : ParityProblem). TellsSpread S G p labels class d o M c.in_ok-line.field-0) c.requires.problem (c.in_ok-line.ensures G)) in
-    let x = c.in_ok-larger.field-0 in
+    (subst (λ (p : ParityProblem). TellsSpread S G p labels class d o M c.in_ok-spread_of.field-0) c.requires.problem (c.in_ok-spread_of.ensures G)) in
+    let x = c.in_ok-larger-in-Stray.field-0 in
     let crossed : IsCrossing S f.problem (size_of f) d j o u x =
-    subst (λ y. IsCrossing S f.problem (size_of f) d j o y x) c.as_slice.ensures.value c.in_ok-larger.ensures in
+    subst (λ y. IsCrossing S f.problem (size_of f) d j o y x) c.as_slice.ensures.value c.in_ok-larger-in-Stray.ensures in
     crossed_second S L f P k t (c.requires.turn L) labels c.requires.classes class M o v u d j b q.own z (stray L) x crossed c.in-Second.set c.in-Second.is
 
 pub last_turn-requires-clause-target : goal.last_turn-requires-clause-target
@@ -419,10 +419,10 @@ last_turn-requires-clause-target g c =
     let u = c.in-Stray.part in
     let stray : (G : IsField S) → IsStrayVector S G f.problem labels class d o M j v u =
     λ G. subst (TellsSpread S G f.problem labels class d o M) c.in-Stray.is
-    (subst (λ (p : ParityProblem). TellsSpread S G p labels class d o M c.in_ok-line.field-0) c.requires.problem (c.in_ok-line.ensures G)) in
-    let x = c.in_ok-larger.field-0 in
+    (subst (λ (p : ParityProblem). TellsSpread S G p labels class d o M c.in_ok-spread_of.field-0) c.requires.problem (c.in_ok-spread_of.ensures G)) in
+    let x = c.in_ok-larger-in-Stray.field-0 in
     let crossed : IsCrossing S f.problem (size_of f) d j o u x =
-    subst (λ y. IsCrossing S f.problem (size_of f) d j o y x) c.as_slice.ensures.value c.in_ok-larger.ensures in
+    subst (λ y. IsCrossing S f.problem (size_of f) d j o y x) c.as_slice.ensures.value c.in_ok-larger-in-Stray.ensures in
     (subst (TellsCrossing S f.problem (size_of f) o crossed.first u crossed.second) c.in-Both.is crossed.tells).0
 
 pub last_turn-requires-clause-vector_long : goal.last_turn-requires-clause-vector_long
@@ -449,7 +449,7 @@ last_turn-requires-clause-vector_long g c =
     let u = c.in-Stray.part in
     let stray : (G : IsField S) → IsStrayVector S G f.problem labels class d o M j v u =
     λ G. subst (TellsSpread S G f.problem labels class d o M) c.in-Stray.is
-    (subst (λ (p : ParityProblem). TellsSpread S G p labels class d o M c.in_ok-line.field-0) c.requires.problem (c.in_ok-line.ensures G)) in
+    (subst (λ (p : ParityProblem). TellsSpread S G p labels class d o M c.in_ok-spread_of.field-0) c.requires.problem (c.in_ok-spread_of.ensures G)) in
     c.as_slice-in-Both.ensures.len ∙ (stray F).parted.is_vector.length_is
 
 pub last_turn-requires-clause-of_class : goal.last_turn-requires-clause-of_class
@@ -476,7 +476,7 @@ last_turn-requires-clause-of_class g c L =
     let u = c.in-Stray.part in
     let stray : (G : IsField S) → IsStrayVector S G f.problem labels class d o M j v u =
     λ G. subst (TellsSpread S G f.problem labels class d o M) c.in-Stray.is
-    (subst (λ (p : ParityProblem). TellsSpread S G p labels class d o M c.in_ok-line.field-0) c.requires.problem (c.in_ok-line.ensures G)) in
+    (subst (λ (p : ParityProblem). TellsSpread S G p labels class d o M c.in_ok-spread_of.field-0) c.requires.problem (c.in_ok-spread_of.ensures G)) in
     subst (AreOfClass S L f.problem labels o) (sym c.as_slice-in-Both.ensures.value)
     (stray_of_class S L f P k t (c.requires.turn L) labels c.requires.classes class M M o v u d j q z.of_line (stray L))
 
@@ -504,8 +504,8 @@ last_turn-requires-clause-lasting g c L =
     let u = c.in-Stray.part in
     let stray : (G : IsField S) → IsStrayVector S G f.problem labels class d o M j v u =
     λ G. subst (TellsSpread S G f.problem labels class d o M) c.in-Stray.is
-    (subst (λ (p : ParityProblem). TellsSpread S G p labels class d o M c.in_ok-line.field-0) c.requires.problem (c.in_ok-line.ensures G)) in
-    let x = c.in_ok-larger.field-0 in
+    (subst (λ (p : ParityProblem). TellsSpread S G p labels class d o M c.in_ok-spread_of.field-0) c.requires.problem (c.in_ok-spread_of.ensures G)) in
+    let x = c.in_ok-larger-in-Stray.field-0 in
     let crossed : IsCrossing S f.problem (size_of f) d j o u x =
-    subst (λ y. IsCrossing S f.problem (size_of f) d j o y x) c.as_slice.ensures.value c.in_ok-larger.ensures in
+    subst (λ y. IsCrossing S f.problem (size_of f) d j o y x) c.as_slice.ensures.value c.in_ok-larger-in-Stray.ensures in
     subst (λ y. IsLasting S L f.problem labels c.in-Both.target o y M) (sym c.as_slice-in-Both.ensures.value) (crossed_both S L f P k t (c.requires.turn L) labels c.requires.classes class M o v u d j b q.own z (stray L) x crossed c.in-Both.target c.in-Both.is)

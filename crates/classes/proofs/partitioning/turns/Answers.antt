@@ -44,7 +44,7 @@ returns-in-Some-clause-told g c =
     let q = c.loop-classes.family in
     let told = subst (λ found. MatchOption found (((L : IsField S) → IsTurn S L c.grow.new.family c.grow.new.table)
     × (pairs_below (length q.problem.lines) (akin_at c.grow.new.table) < pairs_below (length q.problem.lines) (akin_at c.loop-classes.table)))
-    (IsSetOf S q.problem (suc (size_of q)))) c.in-Some.is c.in_ok-larger.ensures.found in
+    (IsSetOf S q.problem (suc (size_of q)))) c.in-Some.is c.in_ok-larger-in-Grown.ensures.found in
     ended_before S c.args.family.now q c.len-members.ensures.family c.loop-classes.invariant.grown (Larger c.in-Some.larger) told
 
 pub loop-classes-preserved : goal.loop-classes-preserved
@@ -53,7 +53,7 @@ loop-classes-preserved g c =
     let q = c.loop-classes.family in
     let told = subst (λ found. MatchOption found (((L : IsField S) → IsTurn S L c.grow.new.family c.grow.new.table)
     × (pairs_below (length q.problem.lines) (akin_at c.grow.new.table) < pairs_below (length q.problem.lines) (akin_at c.loop-classes.table)))
-    (IsSetOf S q.problem (suc (size_of q)))) c.in_default.is c.in_ok-larger.ensures.found in
+    (IsSetOf S q.problem (suc (size_of q)))) c.in_default.is c.in_ok-larger-in-Grown.ensures.found in
     record {
       grown = grown_trans S c.args.family.now q c.grow.new.family c.loop-classes.invariant.grown c.grow.ensures.grows;
       turn = told.0;
@@ -65,6 +65,6 @@ loop-classes-smaller g c =
     let q = c.loop-classes.family in
     let told = subst (λ found. MatchOption found (((L : IsField S) → IsTurn S L c.grow.new.family c.grow.new.table)
     × (pairs_below (length q.problem.lines) (akin_at c.grow.new.table) < pairs_below (length q.problem.lines) (akin_at c.loop-classes.table)))
-    (IsSetOf S q.problem (suc (size_of q)))) c.in_default.is c.in_ok-larger.ensures.found in
+    (IsSetOf S q.problem (suc (size_of q)))) c.in_default.is c.in_ok-larger-in-Grown.ensures.found in
     subst (λ (p : ParityProblem). pairs_below (length p.lines) (akin_at c.grow.new.table) < pairs_below (length q.problem.lines) (akin_at c.loop-classes.table))
     (sym c.grow.ensures.grows.problem) told.1
