@@ -6,6 +6,7 @@ use Rattle.std.proofs.lemmas.List.Elements.{All-head, All-map, All-tail}
 use Rattle.linear_algebra.specs.Scalars.{Scalars, IsScalar, IsField}
 use Rattle.linear_algebra.specs.Vectors.{multiple, zero_vector}
 use Rattle.linear_algebra.proofs.Elements.{product-zero}
+use Rattle.linear_algebra.proofs.VectorLaws.{multiple-one}
 use Rattle.echelon.specs.Leads.{LeadsAt}
 use Rattle.parity_lines.specs.Relations.{IsLeadInverse, IsMonicMultiple}
 
@@ -35,15 +36,8 @@ module _ (S : Scalars) (F : IsField S) where
   multiple_multiple c k (x ∷ v) hc hk h = ap₂ (λ a w. a ∷ w) (sym (F.product_assoc c k x hc hk (All-head (IsScalar S) x v h)))
       (multiple_multiple c k v hc hk (All-tail (IsScalar S) x v h))
 
-  one_times : (x : ℕ) → IsScalar S x → S.product S.one x ≡ x
-  one_times x h = F.product_comm S.one x F.one_in h ∙ F.product-one x h
-
   zero_times : (x : ℕ) → IsScalar S x → S.product S.zero x ≡ S.zero
   zero_times x h = F.product_comm S.zero x F.zero_in h ∙ product-zero S F x h
-
-  multiple-one : (v : List ℕ) → All (IsScalar S) v → multiple S S.one v ≡ v
-  multiple-one [] h = refl
-  multiple-one (x ∷ v) h = ap₂ (λ a w. a ∷ w) (one_times x (All-head (IsScalar S) x v h)) (multiple-one v (All-tail (IsScalar S) x v h))
 
   entry : (c : ℕ) (v : List ℕ) (k : ℕ) → k < length v → get_or (multiple S c v) k 0 ≡ S.product c (get_or v k 0)
   entry c v k h = get_or-map (S.product c) v k 0 0 h
@@ -54,7 +48,7 @@ module _ (S : Scalars) (F : IsField S) where
     b.0,
     b.1,
     sym (ap (multiple S b.0) r.is_multiple ∙ multiple_multiple b.0 r.factor v b.1 r.factor_in h
-        ∙ ap (λ a. multiple S a v) (F.product_comm b.0 r.factor b.1 r.factor_in ∙ b.2) ∙ multiple-one v h),
+        ∙ ap (λ a. multiple S a v) (F.product_comm b.0 r.factor b.1 r.factor_in ∙ b.2) ∙ multiple-one S F v h),
   )
     where
       long : length w ≡ length v
@@ -109,4 +103,4 @@ module _ (S : Scalars) (F : IsField S) where
           ∙ ap (λ c. S.product c (get_or b r.lead 0)) (factor_is ∙ r.zero_before q.lead m) ∙ zero_times (get_or b r.lead 0) (hb r.lead 0 lead_in)))
       go (no l) (no m) =
           let same : q.lead ≡ r.lead = omega arith in
-          e ∙ ap (λ c. multiple S c b) (factor_is ∙ ap (λ t. get_or a t 0) same ∙ r.one) ∙ multiple-one b hb
+          e ∙ ap (λ c. multiple S c b) (factor_is ∙ ap (λ t. get_or a t 0) same ∙ r.one) ∙ multiple-one S F b hb
