@@ -17,8 +17,9 @@ turns-requires g c L =
     record { none = c.requires; table = told L }
 
 pub take_members-requires : goal.take_members-requires
-take_members-requires g c L =
-    subst (λ (p : ParityProblem). IsTableOf g.F.Field.scalars L p [] c.in_ok-table.table) c.problem.ensures (c.in_ok-table.ensures L)
+take_members-requires g c = record {
+  table = λ L. subst (λ (p : ParityProblem). IsTableOf g.F.Field.scalars L p [] c.in_ok-table.table) c.problem.ensures (c.in_ok-table.ensures L);
+}
 
 pub returns-in-Some-clause-told : goal.returns-in-Some-clause-told
 returns-in-Some-clause-told g c k =
