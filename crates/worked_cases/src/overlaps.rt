@@ -9,7 +9,6 @@ use crate::places::{SECOND_AND_FOURTH, ready};
 use crate::reading::{assert_text, problem, shown, shown_set};
 use field_core::Field;
 use matching_state::Matched;
-use parity_lines::LineSet;
 use overlap::{Overlap, at, find, raise};
 use small_fields::{F2, F251};
 use std::alloc::{AllocError, Global};
@@ -44,7 +43,7 @@ fn found<F: Field>(rt: &impl Abort, state: &Matched<'_, F>) -> Result<String, Al
 }
 
 /// The overlap of the two lines that the search finds.
-pub fn overlap<'a, F: Field>(
+fn overlap<'a, F: Field>(
     rt: &impl Abort,
     state: &Matched<'a, F>,
 ) -> Result<Overlap<'a, F>, AllocError>
@@ -79,17 +78,17 @@ fn assert_missed<F: Field>(
 }
 
 /// The longer set that one which misses the point leads to.
-pub fn raised<F: Field>(
+fn raised<F: Field>(
     rt: &impl Abort,
     overlap: &Overlap<'_, F>,
     state: &Matched<'_, F>,
-) -> Result<LineSet, AllocError>
+) -> Result<String, AllocError>
     requires { state.now.problem ≡ overlap.now.problem }
 {
     assert_missed(rt, overlap, state)?;
     let set = state.set();
     assert!(rt; set.len() == overlap.set().len());
-    raise(overlap, set)
+    shown_set(state.alloc(), &raise(overlap, set)?)
 }
 
 /// Asserts what the overlap of a chosen set is, as the search finds it, and made of its two lines.
@@ -118,7 +117,7 @@ fn raised_at<F: Field>(
     let problem = problem::<F>(rt, alloc, text);
     let state = ready(rt, alloc, &problem, chosen)?;
     let other = ready(rt, alloc, &problem, other)?;
-    shown_set(alloc, &raised(rt, &overlap(rt, &state)?, &other)?)
+    raised(rt, &overlap(rt, &state)?, &other)
 }
 
 #[test]
