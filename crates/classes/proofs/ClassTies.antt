@@ -1,20 +1,19 @@
 -- The classes of a turn: their lines by the labels, supports that leave them, and sets that separate two lines of one.
-use Rattle.std.proofs.Common.{◌≡◌, ◌≢◌, ℕ, ◌+◌, ◌≤◌, ◌<◌, ◌⊎◌, inl, inr, List, [], ◌∷◌, length, get_or, refl, sym, ap, ◌∙◌, subst, arith, Bool, true, false}
+use Rattle.std.proofs.Common.{◌≡◌, ◌≢◌, ℕ, ◌≤◌, ◌<◌, ◌⊎◌, inl, inr, List, [], ◌∷◌, length, refl, sym, ap, ◌∙◌, subst, arith, Bool, true, false}
 use Rattle.std.specs.List.{filter}
 use Rattle.std.specs.Prelude.{slice_index}
-use Rattle.std.proofs.lemmas.Bool.{cases_Bool, true≢false}
+use Rattle.std.proofs.lemmas.Bool.{cases_Bool}
 use Rattle.vector_spaces.proofs.Members.{In}
 use Rattle.vector_spaces.proofs.Space.{Space}
 use Rattle.vector_spaces.proofs.Span.{InSpan as InSpan_of}
 use Rattle.vector_spaces.proofs.Tuples.{Tuple}
-use Rattle.class_theory.proofs.ClassParts.{count_in-class}
-use Rattle.class_theory.proofs.Classes.{class_lines, count_in, of_label, of_label_only}
+use Rattle.class_theory.proofs.Classes.{class_lines, of_label}
 use Rattle.class_theory.proofs.ExactClasses.{ExactFamily, class_akin, class_below, lines_of}
-use Rattle.class_theory.proofs.Families.{FreeBelow, Grows, progress_grows}
+use Rattle.class_theory.proofs.Families.{progress_grows}
 use Rattle.class_theory.proofs.Labels.{label, label-label, label_at_most}
 use Rattle.class_theory.proofs.LinesBelow.{IsListing}
 use Rattle.class_theory.proofs.Separations.{Progress, progress, spread}
-use Rattle.families.specs.Families.{IsFamily, SetFamily}
+use Rattle.families.specs.Families.{SetFamily}
 use Rattle.linear_algebra.specs.Scalars.{Scalars, IsField}
 use Rattle.linear_algebra.specs.Vectors.{IsVector}
 use Rattle.linear_algebra.proofs.Coordinates.{space, tuple}
@@ -23,19 +22,18 @@ use Rattle.matching_state.specs.Missing.{Misses}
 use Rattle.matching_state.proofs.Ties.{misses_to}
 use Rattle.parity_lines.proofs.Border.{tuples_at}
 use Rattle.parity_lines.specs.LineSets.{IsIndependentSet}
-use Rattle.parity_lines.specs.Problems.{ParityProblem, IsProblem}
 use Rattle.parity_theory.proofs.Lines.{vectors}
-use Rattle.parity_theory.proofs.Positions.{filter-no, filter-yes, filter_only, sub_filter}
+use Rattle.parity_theory.proofs.Positions.{filter-no, filter-yes}
 use Rattle.classes.proofs.DivisionLaws.{listing_listing}
 use Rattle.classes.proofs.TurnTies.{both, exposed_live, member_below, member_live, support_in, turn_family}
+use Rattle.classes.proofs.TurnFacts.{TurnFacts}
 use Rattle.classes.specs.Divisions.{AreLeast, class_list, listing}
 use Rattle.classes.specs.Ends.{IsSetOf}
 use Rattle.classes.specs.Missed.{AreSeparated}
-use Rattle.classes.specs.Pacing.{class_count}
 use Rattle.classes.specs.Spreads.{IsIn, IsWideOn}
 use Rattle.classes.specs.Supports.{IsStray}
 use Rattle.classes.specs.Tables.{Separators, akin_at, live_at}
-use Rattle.classes.specs.Turns.{AreClasses, AreOfClass, IsGrowth, IsSplit, IsTurn, size_of}
+use Rattle.classes.specs.Turns.{AreClasses, AreOfClass, IsGrowth, IsSplit, size_of}
 
 -- tests that agree on a list leave the same of it
 pub filter_same : (J K : ℕ → Bool) (xs : List ℕ) → ((x : ℕ) → In x xs → J x ≡ K x) → filter J xs ≡ filter K xs
@@ -47,19 +45,19 @@ filter_same J K (x ∷ xs) h = go (cases_Bool (K x)) (filter_same J K xs (λ y i
     go (inr e) rest = filter-no J x xs (h x (inl refl) ∙ e) ∙ rest ∙ sym (filter-no K x xs e)
 
 -- an exposed line with one of its support that isn't akin to it: both are live
-module _ (S : Scalars) (F : IsField S) (f : SetFamily) (P : IsProblem S f.problem) (k : IsFamily S f) (t : Separators) (h : IsTurn S F f t)
+module _ (S : Scalars) (F : IsField S) (f : SetFamily) (t : Separators) (T : TurnFacts S F f t)
     (M : List ℕ) (i : IsIndependentSet S f.problem M) (e g : ℕ) (q : IsSplit S f.problem t M e g) where
   pub split_within : g < length f.problem.lines
-  split_within = member_below S F f P k t h M g i (support_in S F f P k t h M e g q.in_support)
+  split_within = member_below S F f t T M g i (support_in S F f t T M e g q.in_support)
 
   pub split_separated : AreSeparated t e g
   split_separated = record {
-    first_live = exposed_live S F f P k t h M e i q.within q.exposed;
-    second_live = member_live S F f P k t h M g i (support_in S F f P k t h M e g q.in_support);
+    first_live = exposed_live S F f t T M e i q.within q.exposed;
+    second_live = member_live S F f t T M g i (support_in S F f t T M e g q.in_support);
     not_akin = q.not_akin;
   }
 
-module _ (S : Scalars) (F : IsField S) (f : SetFamily) (P : IsProblem S f.problem) (k : IsFamily S f) (t : Separators) (h : IsTurn S F f t)
+module _ (S : Scalars) (F : IsField S) (f : SetFamily) (t : Separators) (T : TurnFacts S F f t)
     (labels : List ℕ) (c : AreClasses (length f.problem.lines) (akin_at t) labels) where
   abbrev sp : Space (scalar_field S F) (Tuple (Element S) f.problem.dimension)
   sp = space S F f.problem.dimension
@@ -73,7 +71,7 @@ module _ (S : Scalars) (F : IsField S) (f : SetFamily) (P : IsProblem S f.proble
     live = live_at t;
     akin = akin_at t;
     family = f.sets;
-    is_family = turn_family S F f P k t h;
+    is_family = turn_family S F f t T;
     exact = c.exact;
     all = all;
     listing = l;
@@ -92,7 +90,7 @@ module _ (S : Scalars) (F : IsField S) (f : SetFamily) (P : IsProblem S f.proble
     exposed = s.exposed;
     in_support = s.in_support;
     not_akin = labels_apart e g s.within
-        (member_below S F f P k t h M g i (support_in S F f P k t h M e g s.in_support)) s.apart;
+        (member_below S F f t T M g i (support_in S F f t T M e g s.in_support)) s.apart;
   }
 
   -- the lines with a label, from any list of the lines
@@ -106,7 +104,7 @@ module _ (S : Scalars) (F : IsField S) (f : SetFamily) (P : IsProblem S f.proble
     growth : Progress sp line M (lines_of (exact_by all l) d) → IsGrowth S F f.problem (size_of f) t M
     growth p = record {
       set = q;
-      separates = progress_grows (turn_family S F f P k t h) M (lines_of (exact_by all l) d) (class_below (exact_by all l) d)
+      separates = progress_grows (turn_family S F f t T) M (lines_of (exact_by all l) d) (class_below (exact_by all l) d)
           (class_akin (exact_by all l) d) p;
     }
 
@@ -119,7 +117,7 @@ module _ (S : Scalars) (F : IsField S) (f : SetFamily) (P : IsProblem S f.proble
         (tuple S F f.problem.dimension w) = λ w z. subst (λ L. InSpan_of sp (vectors line L) (tuple S F f.problem.dimension w)) (lines_same all l d) z in
         growth (progress sp line M (lines_of (exact_by all l) d) (tuple S F f.problem.dimension o) (tuple S F f.problem.dimension v)
         (in_lines o x) (in_lines v y)
-        (misses_to S F f.problem P M (o ∷ v ∷ []) q.independent.line_set.within (both S f.problem.dimension o v a b) m))
+        (misses_to S F f.problem T.problem M (o ∷ v ∷ []) q.independent.line_set.within (both S f.problem.dimension o v a b) m))
 
     pub growth_of_wide : IsWideOn S F f.problem (class_lines (slice_index labels) all d) M → IsGrowth S F f.problem (size_of f) t M
     growth_of_wide w = growth (spread sp line M (lines_of (exact_by all l) d)

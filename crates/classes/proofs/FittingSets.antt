@@ -10,13 +10,12 @@ use Rattle.vector_spaces.proofs.Sublists.{sub_in}
 use Rattle.vector_spaces.proofs.Tuples.{Tuple}
 use Rattle.class_theory.proofs.AkinTables.{akin_symmetric}
 use Rattle.class_theory.proofs.ClassParts.{count_in-class}
-use Rattle.class_theory.proofs.Classes.{class_lines, count_in, of_label}
+use Rattle.class_theory.proofs.Classes.{count_in, of_label}
 use Rattle.class_theory.proofs.ExactClasses.{ExactFamily}
 use Rattle.class_theory.proofs.Labels.{AreExact, Triple, all_or, label, labels_or_triple}
 use Rattle.class_theory.proofs.LargeClasses.{large_turn}
-use Rattle.class_theory.proofs.LinesBelow.{IsLineSet}
 use Rattle.class_theory.proofs.TripleTurns.{triple_turn}
-use Rattle.families.specs.Families.{IsFamily, SetFamily}
+use Rattle.families.specs.Families.{SetFamily}
 use Rattle.linear_algebra.specs.Ranks.{rank_over}
 use Rattle.linear_algebra.specs.Scalars.{Scalars, IsField}
 use Rattle.linear_algebra.specs.Vectors.{IsVector}
@@ -25,7 +24,7 @@ use Rattle.linear_algebra.proofs.Elements.{Element, scalar_field}
 use Rattle.linear_algebra.proofs.Transfer.{independent_from_tuples}
 use Rattle.matching_state.proofs.OneStep.{tuples_independent}
 use Rattle.parity_lines.proofs.Border.{lines_over, tuples_at}
-use Rattle.parity_lines.specs.Problems.{IsProblem, vectors_at}
+use Rattle.parity_lines.specs.Problems.{vectors_at}
 use Rattle.parity_theory.proofs.Duality.{part_count}
 use Rattle.parity_theory.proofs.Lines.{vectors}
 use Rattle.parity_theory.proofs.Parts.{has, has_in}
@@ -33,16 +32,17 @@ use Rattle.parity_theory.proofs.Positions.{filter_only, sub_filter, sub_vectors}
 use Rattle.std.specs.List.{filter}
 use Rattle.classes.proofs.DivisionLaws.{listing_listing}
 use Rattle.classes.proofs.TurnTies.{turn_family}
+use Rattle.classes.proofs.TurnFacts.{TurnFacts}
 use Rattle.classes.specs.ClassLaws.{FitsClasses, LeadsOn, class_at}
 use Rattle.classes.specs.Divisions.{listing}
 use Rattle.classes.specs.Ends.{IsSetOf}
 use Rattle.classes.specs.Tables.{Separators, akin_at, live_at}
-use Rattle.classes.specs.Turns.{IsTurn, size_of}
+use Rattle.classes.specs.Turns.{size_of}
 
 half : (r c : ℕ) → c + c ≤ r → ¬ (c + c + 2 ≤ r) → r / 2 ≡ c
 half r c h k = omega (arith, h, k)
 
-module _ (S : Scalars) (F : IsField S) (f : SetFamily) (t : Separators) (P : IsProblem S f.problem) (k : IsFamily S f) (h : IsTurn S F f t) where
+module _ (S : Scalars) (F : IsField S) (f : SetFamily) (t : Separators) (T : TurnFacts S F f t) where
   abbrev sp : Space (scalar_field S F) (Tuple (Element S) f.problem.dimension)
   sp = space S F f.problem.dimension
 
@@ -51,12 +51,12 @@ module _ (S : Scalars) (F : IsField S) (f : SetFamily) (t : Separators) (P : IsP
 
   pub classes_or_on : AreExact (length f.problem.lines) (akin_at t) ⊎ LeadsOn S F f t
   classes_or_on = go (labels_or_triple (length f.problem.lines) (akin_at t)
-      (akin_symmetric sp line f.sets (length f.problem.lines) (live_at t) (akin_at t) (turn_family S F f P k t h).table))
+      (akin_symmetric sp line f.sets (length f.problem.lines) (live_at t) (akin_at t) (turn_family S F f t T).table))
     where
       go : AreExact (length f.problem.lines) (akin_at t) ⊎ Triple (length f.problem.lines) (akin_at t) →
           AreExact (length f.problem.lines) (akin_at t) ⊎ LeadsOn S F f t
       go (inl e) = inl e
-      go (inr v) = inr (triple_turn (turn_family S F f P k t h) v)
+      go (inr v) = inr (triple_turn (turn_family S F f t T) v)
 
   module _ (exact : AreExact (length f.problem.lines) (akin_at t)) (M : List ℕ) (q : IsSetOf S f.problem (size_of f) M) where
     abbrev exact_family : ExactFamily sp line (length f.problem.lines) (size_of f)
@@ -64,7 +64,7 @@ module _ (S : Scalars) (F : IsField S) (f : SetFamily) (t : Separators) (P : IsP
       live = live_at t;
       akin = akin_at t;
       family = f.sets;
-      is_family = turn_family S F f P k t h;
+      is_family = turn_family S F f t T;
       exact = exact;
       all = listing (length f.problem.lines);
       listing = listing_listing (length f.problem.lines);
@@ -92,7 +92,7 @@ module _ (S : Scalars) (F : IsField S) (f : SetFamily) (t : Separators) (P : IsP
                 (sub_in H (listing (length f.problem.lines)) (sub_filter (of_label (label (akin_at t)) c) (listing (length f.problem.lines))) m j))
 
             has_rank : HasRankOver sp [] (vectors line H) r
-            has_rank = lines_over S F f.problem P [] H (All-nil (IsVector S f.problem.dimension))
+            has_rank = lines_over S F f.problem T.problem [] H (All-nil (IsVector S f.problem.dimension))
                 (independent_from_tuples S F f.problem.dimension [] (All-nil (IsVector S f.problem.dimension)) tt) below
 
             go : Dec (count_in (has H) M + count_in (has H) M + 2 ≤ r) → (r / 2 ≡ count_in (has H) M) ⊎ LeadsOn S F f t
@@ -100,9 +100,9 @@ module _ (S : Scalars) (F : IsField S) (f : SetFamily) (t : Separators) (P : IsP
                 let e = count_in-class (label (akin_at t)) (listing (length f.problem.lines)) c M in_lines in
                 inr (large_turn exact_family M c r
                 (record { size = q.size; below = λ i j. In-all (λ m. m < length f.problem.lines) M q.independent.line_set.within i j })
-                (tuples_independent S F f.problem P M q.independent M q.independent) has_rank (omega arith))
+                (tuples_independent S F f.problem T.problem M q.independent M q.independent) has_rank (omega arith))
             go (no n) = inl (half r (count_in (has H) M)
                 (part_count sp line [] (filter (has H) M) H r
                 (sublist_independent sp (vectors line (filter (has H) M)) (vectors line M)
-                (tuples_independent S F f.problem P M q.independent M q.independent) (sub_vectors line (filter (has H) M) M (sub_filter (has H) M)))
+                (tuples_independent S F f.problem T.problem M q.independent M q.independent) (sub_vectors line (filter (has H) M) M (sub_filter (has H) M)))
                 (λ l j. has_in H l (filter_only (has H) M l j)) has_rank) n)

@@ -1,5 +1,5 @@
 -- A family that grows: its problem, its size and what its sets have in common, and fewer akin pairs.
-use Rattle.std.proofs.Common.{◌≡◌, ◌≢◌, ℕ, suc, ◌<◌, ◌⊎◌, inl, inr, List, [], ◌∷◌, ◌++◌, append-nil, append_assoc, length, get_or, take, refl, sym, ap, ◌∙◌, subst, arith, All, true, false, ◌+◌, Option, None, Some}
+use Rattle.std.proofs.Common.{◌≡◌, ◌≢◌, ℕ, suc, ◌<◌, ◌⊎◌, inl, inr, List, [], ◌∷◌, ◌++◌, append-nil, append_assoc, length, get_or, take, refl, sym, ap, ◌∙◌, subst, arith, All, true, ◌+◌, Option, None, Some}
 use Rattle.std.specs.Prelude.{◌↔◌, MatchOption}
 use Rattle.std.specs.List.{Contains}
 use Rattle.std.specs.List.Sorted.{IsStrictlyIncreasing}
@@ -11,7 +11,7 @@ use Rattle.class_theory.proofs.AkinTables.{IsAkinTable}
 use Rattle.class_theory.proofs.Families.{Grows, growing_falls}
 use Rattle.class_theory.proofs.PairCounts.{pairs_below}
 use Rattle.exchanges.proofs.LargerSets.{larger_by_line}
-use Rattle.families.specs.Families.{IsCommon, IsFamily, SetFamily, Spans}
+use Rattle.families.specs.Families.{IsFamily, SetFamily, Spans}
 use Rattle.linear_algebra.specs.Scalars.{Scalars, IsField}
 use Rattle.linear_algebra.proofs.Coordinates.{space}
 use Rattle.matching_state.proofs.Ties.{free_rank}
@@ -22,6 +22,7 @@ use Rattle.parity_theory.proofs.Lines.{IsFree}
 use Rattle.parity_theory.proofs.Places.{free_of_independent}
 use Rattle.classes.proofs.TableLaws.{akin_table}
 use Rattle.classes.proofs.TurnTies.{nonzero_live, not_empty, size-size_of, turn_family}
+use Rattle.classes.proofs.TurnFacts.{TurnFacts}
 use Rattle.classes.specs.Ends.{IsSetOf}
 use Rattle.classes.specs.Partitions.{HasGrown, HasNoCommon, TellsClasses}
 use Rattle.classes.specs.Tables.{IsTableOf, Separators, akin_at, live_at}
@@ -82,11 +83,11 @@ same_size S f g k h = ap (λ (s : List (List ℕ)). length (get_or s 0 [])) h.se
     ∙ ap length (get_or_append_left f.sets h.added [] 0 (not_empty f.sets k.nonempty))
 
 -- the table with a set that separates two akin lines has fewer akin pairs
-pub fewer_pairs : (S : Scalars) (F : IsField S) (f : SetFamily) (P : IsProblem S f.problem) (k : IsFamily S f) (t after : Separators) → IsTurn S F f t → (M : List ℕ) →
+pub fewer_pairs : (S : Scalars) (F : IsField S) (f : SetFamily) (t : Separators) → TurnFacts S F f t → (after : Separators) (M : List ℕ) →
     IsGrowth S F f.problem (size_of f) t M → IsTableOf S F f.problem (f.sets ++ M ∷ []) after →
     pairs_below (length f.problem.lines) (akin_at after) < pairs_below (length f.problem.lines) (akin_at t)
-fewer_pairs S F f P k t after h M g a =
-    growing_falls (turn_family S F f P k t h) M (f.sets ++ M ∷ []) (akin_at after) grows (λ N j. In-append_left N f.sets (M ∷ []) j)
+fewer_pairs S F f t T after M g a =
+    growing_falls (turn_family S F f t T) M (f.sets ++ M ∷ []) (akin_at after) grows (λ N j. In-append_left N f.sets (M ∷ []) j)
     (In-append_right M f.sets (M ∷ []) (inl refl)) table
   where
     grows : Grows (space S F f.problem.dimension) (tuples_at S F f.problem) (length f.problem.lines) (akin_at t) M
@@ -97,12 +98,12 @@ fewer_pairs S F f P k t after h M g a =
 
     -- the same lines are live by both tables
     before : (i : ℕ) → i < length f.problem.lines → live_at after i ≡ true → live_at t i ≡ true
-    before i b e = let q = (a.lives.each i b).alive e in nonzero_live S F f P k t h i b q.0 q.1 q.2
+    before i b e = let q = (a.lives.each i b).alive e in nonzero_live S F f t T i b q.0 q.1 q.2
 
     still : (i : ℕ) → i < length f.problem.lines → live_at t i ≡ true → live_at after i ≡ true
     still i b e = elim (cases_Bool (live_at after i)) [
       | inl d ↦ d
-      | inr d ↦ (let q = (h.table.lives.each i b).alive e in absurd (q.2 ((a.lives.each i b).dead d q.0 q.1)))
+      | inr d ↦ (let q = (T.turn.table.lives.each i b).alive e in absurd (q.2 ((a.lives.each i b).dead d q.0 q.1)))
     ]
 
     made : IsAkinTable (space S F f.problem.dimension) (tuples_at S F f.problem) (f.sets ++ M ∷ []) (length f.problem.lines) (live_at after) (akin_at after)
@@ -127,19 +128,19 @@ taken_before sets M = take-append-le (length sets) sets (M ∷ []) (omega arith)
 pub taken_with : (sets : List (List ℕ)) (M : List ℕ) → take (length sets + 1) (sets ++ M ∷ []) ≡ sets ++ M ∷ []
 taken_with sets M = take_all (length sets + 1) (sets ++ M ∷ []) (let l = length_push sets M in omega arith)
 
-module _ (S : Scalars) (F : IsField S) (f : SetFamily) (P : IsProblem S f.problem) (k : IsFamily S f) (t : Separators) (h : IsTurn S F f t) (M : List ℕ)
+module _ (S : Scalars) (F : IsField S) (f : SetFamily) (t : Separators) (T : TurnFacts S F f t) (M : List ℕ)
     (g : IsGrowth S F f.problem (size_of f) t M) where
   -- a turn of the family with the set
   pub turn_with : (L : IsField S) (after : Separators) → IsTableOf S L f.problem (take (length f.sets + 1) (f.sets ++ M ∷ [])) after →
       IsTurn S L (with_set f M) after
   turn_with L after a = record {
-    none = (grown_by_set S f k h.none M g.set).no_common;
+    none = (grown_by_set S f T.family T.turn.none M g.set).no_common;
     table = subst (λ sets. IsTableOf S L f.problem sets after) (taken_with f.sets M) a;
   }
 
   pub fewer_with : (after : Separators) → IsTableOf S F f.problem (take (length f.sets + 1) (f.sets ++ M ∷ [])) after →
       pairs_below (length f.problem.lines) (akin_at after) < pairs_below (length f.problem.lines) (akin_at t)
-  fewer_with after a = fewer_pairs S F f P k t after h M g (subst (λ sets. IsTableOf S F f.problem sets after) (taken_with f.sets M) a)
+  fewer_with after a = fewer_pairs S F f t T after M g (subst (λ sets. IsTableOf S F f.problem sets after) (taken_with f.sets M) a)
 
   -- what taking the set into the table finds
   pub grown_found : (member : ℕ) → member ≡ length f.sets → (q : SetFamily) → q ≡ with_set f M → (after : Separators) (found : Option (List ℕ)) →
@@ -152,7 +153,7 @@ module _ (S : Scalars) (F : IsField S) (f : SetFamily) (P : IsProblem S f.proble
       let b : (L : IsField S) → IsTableOf S L f.problem (take (length f.sets + 1) (f.sets ++ M ∷ [])) after =
       λ L. subst (λ n. IsTableOf S L f.problem (take (n + 1) (f.sets ++ M ∷ [])) after) e (a L) in
       ((λ L. subst (λ (w : SetFamily). IsTurn S L w after) (sym d) (turn_with L after (b L))), fewer_with after (b F)))
-      (λ L w. subst (λ n. IsSetOf S f.problem (suc n) L) (same_size S f (with_set f M) k (grown_by_set S f k h.none M g.set)) w)
+      (λ L w. subst (λ n. IsSetOf S f.problem (suc n) L) (same_size S f (with_set f M) T.family (grown_by_set S f T.family T.turn.none M g.set)) w)
     where
       told : MatchOption found ((L : IsField S) → IsTableOf S L f.problem (take (member + 1) (f.sets ++ M ∷ [])) after)
           (IsSetOf S f.problem (suc (size_of (with_set f M))))
@@ -167,7 +168,7 @@ module _ (S : Scalars) (F : IsField S) (f : SetFamily) (P : IsProblem S f.proble
 
   pub grown_sizes : All (λ (N : List ℕ). length N ≡ length M) f.sets
   grown_sizes = all-In (λ (N : List ℕ). length N ≡ length M) f.sets (λ N j.
-      In-all (λ (N : List ℕ). length N ≡ k.size) f.sets k.sizes N j ∙ size-size_of S f k ∙ sym g.set.size)
+      In-all (λ (N : List ℕ). length N ≡ T.family.size) f.sets T.family.sizes N j ∙ size-size_of S f T.family ∙ sym g.set.size)
 
   pub grown_within : (member : ℕ) → member ≡ length f.sets → (q : SetFamily) → q ≡ with_set f M → member < length q.sets
   grown_within member e q d = subst (λ (w : SetFamily). member < length w.sets) (sym d) (let l = length_push f.sets M in omega arith)

@@ -1,8 +1,7 @@
 -- The turn of a class that is too large: its lines are live, it stays too large on the way, and where its sets end.
-use Rattle.std.proofs.Common.{◌≡◌, ◌≢◌, ℕ, ◌+◌, ◌-◌, ◌≤◌, ◌<◌, ◌⊎◌, inl, inr, List, [], ◌∷◌, ◌++◌, length, get_or, refl, sym, ap, ◌∙◌, subst, arith, Bool, true, false, All}
+use Rattle.std.proofs.Common.{◌≡◌, ◌≢◌, ℕ, ◌+◌, ◌-◌, ◌≤◌, ◌<◌, ◌⊎◌, inl, inr, List, [], length, refl, sym, ap, ◌∙◌, subst, arith, true, All}
 use Rattle.std.specs.Prelude.{slice_index}
 use Rattle.std.proofs.lemmas.List.Elements.{All-nil}
-use Rattle.vector_spaces.proofs.Bases.{HasRankOver}
 use Rattle.vector_spaces.proofs.Members.{In, In-all}
 use Rattle.vector_spaces.proofs.Space.{Field, Space}
 use Rattle.vector_spaces.proofs.Span.{InSpan as InSpan_of, span_member, span_null}
@@ -13,18 +12,15 @@ use Rattle.class_theory.proofs.ClassParts.{count_in-class}
 use Rattle.class_theory.proofs.Classes.{class_lines, count_in, of_label, of_label_in, of_label_only}
 use Rattle.class_theory.proofs.LargeClasses.{not_null_of_rank}
 use Rattle.class_theory.proofs.LinesBelow.{IsListing, positions, positions_listing}
-use Rattle.families.specs.Families.{IsFamily, SetFamily}
+use Rattle.families.specs.Families.{SetFamily}
 use Rattle.linear_algebra.specs.Ranks.{rank, rank_over}
 use Rattle.linear_algebra.specs.Scalars.{Scalars, IsField}
-use Rattle.linear_algebra.specs.Spans.{IsIndependent}
-use Rattle.linear_algebra.specs.Vectors.{IsVector, zero_vector}
+use Rattle.linear_algebra.specs.Vectors.{IsVector}
 use Rattle.linear_algebra.proofs.Coordinates.{space, tuple}
 use Rattle.linear_algebra.proofs.Elements.{Element, scalar_field}
 use Rattle.linear_algebra.proofs.Transfer.{independent_from_tuples}
-use Rattle.matching_state.specs.Missing.{Misses}
 use Rattle.matching_state.proofs.Ties.{tuple_not_null}
 use Rattle.parity_lines.proofs.Border.{lines_over, tuples_at}
-use Rattle.parity_lines.specs.LineSets.{IsIndependentSet}
 use Rattle.parity_lines.specs.Problems.{ParityProblem, IsProblem, vectors_at}
 use Rattle.parity_theory.proofs.Lines.{vectors}
 use Rattle.parity_theory.proofs.Parts.{has}
@@ -32,15 +28,15 @@ use Rattle.parity_theory.proofs.Positions.{filter_in, filter_only, members_of_ve
 use Rattle.classes.proofs.ClassTies.{growth_of_missed, labels_apart}
 use Rattle.classes.proofs.DivisionLaws.{class_within, listing_listing}
 use Rattle.classes.proofs.TurnTies.{live_nonzero, nonzero_live, of_line_in, of_line_vector, of_nonzero_live, turn_family}
+use Rattle.classes.proofs.TurnFacts.{TurnFacts}
 use Rattle.classes.specs.Crossings.{TellsCrossing}
 use Rattle.classes.specs.Divisions.{IsLargeClass, class_list, listing}
-use Rattle.classes.specs.Ends.{IsSetOf}
 use Rattle.classes.specs.Lasting.{IsLasting}
 use Rattle.classes.specs.Missed.{AreSeparated, IsNonzeroOf, IsOfLine}
 use Rattle.classes.specs.Pacing.{KeepsCounts, class_count}
 use Rattle.classes.specs.Spreads.{IsIn, IsStrayVector}
 use Rattle.classes.specs.Tables.{Separators, akin_at, live_at}
-use Rattle.classes.specs.Turns.{AreClasses, AreOfClass, IsCrossing, IsGrowth, IsTurn, size_of}
+use Rattle.classes.specs.Turns.{AreClasses, AreOfClass, IsCrossing, IsGrowth, size_of}
 use Rattle.classes.specs.declared.crossing.Crossing.{Crossing}
 use Rattle.classes.specs.declared.crossing.Crossing.TheVariants.{First, Second, Both}
 
@@ -66,10 +62,13 @@ module _ (S : Scalars) (F : IsField S) (p : ParityProblem) (labels : List ℕ) (
       (filter_in (of_label (slice_index labels) c) all i (l.above i h) (of_label_in (slice_index labels) c i e))
       (of_line_in S F p P i h v o))
 
+  pub large_below : (M class : List ℕ) (c : ℕ) → IsLargeClass S p labels M c class → c < length p.lines
+  large_below M class c q = omega (arith, long, q.within)
+
   pub label_in_class : (M class : List ℕ) (c : ℕ) → IsLargeClass S p labels M c class → IsProblem S p → (v : List ℕ) → IsOfLine p c v →
       IsIn S F p class v
   label_in_class M class c q P v o = subst (λ L. IsIn S F p L v) (sym q.is)
-      (line_in_class (listing (length labels)) listed c (omega (arith, long, q.within)) P c q.own v o)
+      (line_in_class (listing (length labels)) listed c (large_below M class c q) P c q.own v o)
 
   count_class : (M : List ℕ) → All (λ m. m < length p.lines) M → (c : ℕ) → count_in (has (class_list labels c)) M ≡ class_count labels c M
   count_class M w c = count_in-class (slice_index labels) (listing (length labels)) c M
@@ -94,7 +93,7 @@ module _ (S : Scalars) (F : IsField S) (p : ParityProblem) (labels : List ℕ) (
   pub large_within : (M class : List ℕ) (c : ℕ) → IsLargeClass S p labels M c class → All (λ m. m < length p.lines) class
   large_within M class c q = subst (All (λ m. m < length p.lines)) (sym q.is) (class_within (length p.lines) labels long c)
 
-module _ (S : Scalars) (F : IsField S) (f : SetFamily) (P : IsProblem S f.problem) (k : IsFamily S f) (t : Separators) (h : IsTurn S F f t)
+module _ (S : Scalars) (F : IsField S) (f : SetFamily) (t : Separators) (T : TurnFacts S F f t)
     (labels : List ℕ) (c : AreClasses (length f.problem.lines) (akin_at t) labels) where
   abbrev sp : Space (scalar_field S F) (Tuple (Element S) f.problem.dimension)
   sp = space S F f.problem.dimension
@@ -114,8 +113,8 @@ module _ (S : Scalars) (F : IsField S) (f : SetFamily) (P : IsProblem S f.proble
       let bx : x.0 < length f.problem.lines = l.below x.0 (sub_in H all (sub_filter J all) x.0 x.1) in
       let same : slice_index labels x.0 ≡ d = of_label_only (slice_index labels) d x.0 (filter_only J all x.0 x.1) in
       elim ((c.exact x.0 bx j b).related (sym (c.told.each x.0 bx) ∙ same ∙ c.told.each j b)) [
-        | inl e ↦ subst (λ m. live_at t m ≡ true) e (nonzero_live S F f P k t h x.0 bx o.0 x.2 o.2)
-        | inr e ↦ (turn_family S F f P k t h).table.second_live x.0 j bx b e
+        | inl e ↦ subst (λ m. live_at t m ≡ true) e (nonzero_live S F f t T x.0 bx o.0 x.2 o.2)
+        | inr e ↦ (turn_family S F f t T).table.second_live x.0 j bx b e
       ]
 
   -- the line of the label of a class that is too large has a vector that isn't zero
@@ -123,58 +122,61 @@ module _ (S : Scalars) (F : IsField S) (f : SetFamily) (P : IsProblem S f.proble
       (v : List ℕ) × IsNonzeroOf S f.problem d v
   large_nonzero M class d q b =
       let none = All-nil (IsVector S f.problem.dimension) in
-      let r = lines_over S F f.problem P [] class none (independent_from_tuples S F f.problem.dimension [] none tt)
+      let r = lines_over S F f.problem T.problem [] class none (independent_from_tuples S F f.problem.dimension [] none tt)
       (large_within S F f.problem labels c.told.long M class d q) in
       let o = not_null_of_rank sp line (vectors line class) (rank_over S f.problem.dimension [] (vectors_at f.problem class)) r
       (let l = q.large in omega arith) in
       let all = listing (length labels) in
       let in_class : InSpan_of sp (vectors line (class_lines (slice_index labels) all (slice_index labels d))) o.0 =
       subst (λ L. InSpan_of sp (vectors line L) o.0) (q.is ∙ ap (class_list labels) (sym q.own)) (span_member (scalar_field S F) sp (vectors line class) o.0 o.1) in
-      live_nonzero S F f P k t h d b
+      live_nonzero S F f t T d b
       (class_live all (listed S F f.problem labels c.told.long) d b o.0 in_class o.2)
 
-  -- a stray vector of a class, with a vector of the line of its label: the two lines aren't akin
-  pub stray_separated : (H M o v u : List ℕ) (d j : ℕ) → d < length f.problem.lines → slice_index labels d ≡ d → IsNonzeroOf S f.problem d o →
-      IsStrayVector S F f.problem labels H d o M j v u → AreSeparated t d j
-  stray_separated H M o v u d j b own z q = record {
-    first_live = of_nonzero_live S F f P k t h d b o z;
-    second_live = class_live (positions (length f.problem.lines)) (positions_listing (length f.problem.lines)) j q.within (tuple S F f.problem.dimension u)
-        q.in_class (tuple_not_null S F f.problem P u q.parted.part q.not_zero);
-    not_akin = labels_apart S F f P k t h labels c d j b q.within (λ e. q.apart (e ∙ own));
-  }
+  -- a stray vector of a class that is too large, with a vector of the line of its label
+  module _ (class M o v u : List ℕ) (d j : ℕ) (large : IsLargeClass S f.problem labels M d class) (z : IsNonzeroOf S f.problem d o)
+      (q : IsStrayVector S F f.problem labels class d o M j v u) where
+    b : d < length f.problem.lines
+    b = large_below S F f.problem labels c.told.long M class d large
 
-  module _ (H M o v u : List ℕ) (d j : ℕ) (b : d < length f.problem.lines) (own : slice_index labels d ≡ d) (z : IsNonzeroOf S f.problem d o)
-      (q : IsStrayVector S F f.problem labels H d o M j v u) (crossing : Crossing) (x : IsCrossing S f.problem (size_of f) d j o u crossing) where
-    -- the set misses o and a vector of the same line's class, or u and a vector of the other line
-    pub crossed_first : (L : List ℕ) → crossing ≡ First L → IsGrowth S F f.problem (size_of f) t L
-    crossed_first L e =
-        let r = subst (TellsCrossing S f.problem (size_of f) o x.first u x.second) e x.tells in
-        let l = positions_listing (length f.problem.lines) in
-        let all = positions (length f.problem.lines) in
-        growth_of_missed S F f P k t h labels c all l d L r.0 o x.first (of_line_vector S F f.problem P d b o z.of_line)
-        (of_line_vector S F f.problem P d b x.first x.of_first)
-        (line_in_class S F f.problem labels c.told.long all l d b P d own o z.of_line)
-        (line_in_class S F f.problem labels c.told.long all l d b P d own x.first x.of_first) r.1
+    -- the two lines aren't akin
+    pub stray_separated : AreSeparated t d j
+    stray_separated = record {
+      first_live = of_nonzero_live S F f t T d b o z;
+      second_live = class_live (positions (length f.problem.lines)) (positions_listing (length f.problem.lines)) j q.within (tuple S F f.problem.dimension u)
+          q.in_class (tuple_not_null S F f.problem T.problem u q.parted.part q.not_zero);
+      not_akin = labels_apart S F f t T labels c d j b q.within (λ e. q.apart (e ∙ large.own));
+    }
 
-    pub crossed_second : (L : List ℕ) → crossing ≡ Second L → IsGrowth S F f.problem (size_of f) t L
-    crossed_second L e =
-        let r = subst (TellsCrossing S f.problem (size_of f) o x.first u x.second) e x.tells in
-        let l = positions_listing (length f.problem.lines) in
-        let all = positions (length f.problem.lines) in
-        growth_of_missed S F f P k t h labels c all l (slice_index labels j) L r.0 u x.second q.parted.part
-        (of_line_vector S F f.problem P j q.within x.second x.of_second) q.in_class
-        (line_in_class S F f.problem labels c.told.long all l j q.within P (slice_index labels j) refl x.second x.of_second) r.1
+    -- both vectors are of the class
+    pub stray_of_class : AreOfClass S F f.problem labels o v
+    stray_of_class = record {
+      label = d;
+      first_in = subst (λ L. IsIn S F f.problem L o) large.is (label_in_class S F f.problem labels c.told.long M class d large T.problem o z.of_line);
+      second_in = subst (λ L. IsIn S F f.problem L v) large.is q.in_lines;
+    }
 
-    pub crossed_both : (L : List ℕ) → crossing ≡ Both L → IsLasting S F f.problem labels L o v M
-    crossed_both L e =
-        let r = subst (TellsCrossing S f.problem (size_of f) o x.first u x.second) e x.tells in
-        record { label = slice_index labels j; part = u; parted = q.parted; missed = r.1 }
+    module _ (crossing : Crossing) (x : IsCrossing S f.problem (size_of f) d j o u crossing) where
+      -- the set misses o and a vector of the same line's class, or u and a vector of the other line
+      pub crossed_first : (L : List ℕ) → crossing ≡ First L → IsGrowth S F f.problem (size_of f) t L
+      crossed_first L e =
+          let r = subst (TellsCrossing S f.problem (size_of f) o x.first u x.second) e x.tells in
+          let l = positions_listing (length f.problem.lines) in
+          let all = positions (length f.problem.lines) in
+          growth_of_missed S F f t T labels c all l d L r.0 o x.first (of_line_vector S F f.problem T.problem d b o z.of_line)
+          (of_line_vector S F f.problem T.problem d b x.first x.of_first)
+          (line_in_class S F f.problem labels c.told.long all l d b T.problem d large.own o z.of_line)
+          (line_in_class S F f.problem labels c.told.long all l d b T.problem d large.own x.first x.of_first) r.1
 
-  -- both vectors are of the class that is too large
-  pub stray_of_class : (class N M o v u : List ℕ) (d j : ℕ) → IsLargeClass S f.problem labels N d class → IsOfLine f.problem d o →
-      IsStrayVector S F f.problem labels class d o M j v u → AreOfClass S F f.problem labels o v
-  stray_of_class class N M o v u d j q z s = record {
-    label = d;
-    first_in = subst (λ L. IsIn S F f.problem L o) q.is (label_in_class S F f.problem labels c.told.long N class d q P o z);
-    second_in = subst (λ L. IsIn S F f.problem L v) q.is s.in_lines;
-  }
+      pub crossed_second : (L : List ℕ) → crossing ≡ Second L → IsGrowth S F f.problem (size_of f) t L
+      crossed_second L e =
+          let r = subst (TellsCrossing S f.problem (size_of f) o x.first u x.second) e x.tells in
+          let l = positions_listing (length f.problem.lines) in
+          let all = positions (length f.problem.lines) in
+          growth_of_missed S F f t T labels c all l (slice_index labels j) L r.0 u x.second q.parted.part
+          (of_line_vector S F f.problem T.problem j q.within x.second x.of_second) q.in_class
+          (line_in_class S F f.problem labels c.told.long all l j q.within T.problem (slice_index labels j) refl x.second x.of_second) r.1
+
+      pub crossed_both : (L : List ℕ) → crossing ≡ Both L → IsLasting S F f.problem labels L o v M
+      crossed_both L e =
+          let r = subst (TellsCrossing S f.problem (size_of f) o x.first u x.second) e x.tells in
+          record { label = slice_index labels j; part = u; parted = q.parted; missed = r.1 }

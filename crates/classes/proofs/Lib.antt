@@ -14,6 +14,7 @@ pub mod PacedTies
 pub mod CrossingTies
 pub mod LastTies
 pub mod PairsApart
+pub mod TurnFacts
 pub mod TurnTies
 pub mod ClassTies
 pub mod TripleTies
@@ -21,6 +22,5 @@ pub mod MissedTies
 pub mod GrowthTies
 pub mod LargeTies
 pub mod FittingSets
-pub mod TurnedTies
 pub mod SpreadParts
 pub mod SpreadTies

@@ -1,5 +1,5 @@
 -- Vectors of lines that aren't zero or are missed, members that miss a vector, and the separators that a table tells.
-use Rattle.std.proofs.Common.{◌≡◌, ◌≢◌, ℕ, ◌<◌, inl, inr, List, [], ◌∷◌, ◌++◌, length, get_or, refl, sym, ◌∙◌, subst, Bool, true, false, ◌&&◌, Option, None, Some}
+use Rattle.std.proofs.Common.{◌≡◌, ◌≢◌, ℕ, ◌<◌, inl, inr, List, [], ◌∷◌, length, get_or, sym, ◌∙◌, subst, Bool, true, false, ◌&&◌, Option, None, Some}
 use Rattle.std.specs.Option.{is_none}
 use Rattle.std.proofs.lemmas.Bool.{true≢false}
 use Rattle.families.specs.Families.{IsFamily, IsFirstMissing, SetFamily}
@@ -14,7 +14,7 @@ use Rattle.parity_lines.proofs.LinePairs.{line_at_vectors}
 use Rattle.parity_lines.specs.LineSets.{IsIndependentSet}
 use Rattle.parity_lines.specs.Problems.{ParityProblem, IsProblem, line_at, vectors_at}
 use Rattle.classes.specs.Missed.{AreSeparated, IsMissedOf, IsMissing, IsNonzeroOf, IsSeparator}
-use Rattle.classes.specs.Tables.{IsTableOf, Separators, TellsSeparator, akin_at, live_at, separator_at}
+use Rattle.classes.specs.Tables.{IsTableOf, Separators, TellsSeparator, live_at, separator_at}
 
 module _ (S : Scalars) (p : ParityProblem) (l : ℕ) where
   pub nonzero_first : (v : List ℕ) → v ≡ (line_at p l).0 → v ≢ zero_vector S p.dimension → IsNonzeroOf S p l v

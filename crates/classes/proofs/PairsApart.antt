@@ -1,5 +1,5 @@
 -- Vectors of two lines that a set is wide on: any that are outside its span are missed together.
-use Rattle.std.proofs.Common.{ℕ, inl, inr, List, [], ◌∷◌, ◌++◌, append_assoc, arith, refl, sym, subst}
+use Rattle.std.proofs.Common.{ℕ, List, [], ◌∷◌, ◌++◌, append_assoc, arith, sym, subst}
 use Rattle.class_theory.proofs.Separations.{separates_of_wide}
 use Rattle.parity_theory.proofs.Lines.{IsFree, Misses, vectors}
 use Rattle.parity_theory.proofs.Positions.{length-missing}
@@ -8,7 +8,7 @@ use Rattle.vector_spaces.proofs.Independence.{IsIndependent, independent_left, s
 use Rattle.vector_spaces.proofs.Members.{In}
 use Rattle.vector_spaces.proofs.Space.{Field, Space}
 use Rattle.vector_spaces.proofs.Span.{InSpan, decide_span}
-use Rattle.vector_spaces.proofs.Within.{Within, placing, through}
+use Rattle.vector_spaces.proofs.Within.{placing, through}
 
 module _ {K V : Type 0} {f : Field K} (s : Space f V) (line : ℕ → V × V) where
   pub first_missed : (M : List ℕ) (a b : V) → Misses s line M (a ∷ b ∷ []) → Misses s line M (a ∷ [])

@@ -1,5 +1,5 @@
 -- What a turn starts from, and what it gives.
-use Rattle.std.specs.Prelude.{◌≡◌, ◌⊎◌, ℕ, ◌<◌, List, [], ◌∷◌, Bool, false, length, slice_index_or}
+use Rattle.std.specs.Prelude.{◌≡◌, ◌⊎◌, ℕ, ◌<◌, List, [], Bool, false, length, slice_index_or}
 use Rattle.class_theory.proofs.Families.{FreeBelow, Grows}
 use Rattle.class_theory.proofs.Labels.{AreExact}
 use Rattle.families.specs.Families.{SetFamily}

@@ -9,7 +9,6 @@ ghost use Rattle.matching_state.specs.Overlaps.{IsOverlap};
 ghost use Rattle.classes.specs.Ends.{IsSetOf, TellsEnd};
 
 use crate::ended::{Ended, ended_by};
-use crate::starting::{alone, started};
 use crate::supports::supports_meet;
 use exchanges::{Stepped, step_toward};
 use field_core::{Field, Rows};
@@ -27,7 +26,7 @@ fn outer_alone<F: Field>(state: &Matched<'_, F>, line: usize) -> Result<Rows<F>,
     let Place::Exposed { outer, .. } = state.position(line)? else {
         unreachable!();
     };
-    Ok(alone(state.alloc(), outer.as_slice())?)
+    Ok(Rows::alone(state.alloc(), outer.as_slice())?)
 }
 
 /// The end that a line that came in gives for the set before, where its support met that of `line`.
@@ -70,7 +69,7 @@ fn circle<F: Field>(
 {
     let (alloc, problem, set) = (state.alloc(), state.problem(), state.set());
     let (_lines, _kept) = (problem.len(), keep.len());
-    let before = started(alloc, problem, set)?;
+    let before = Matched::started(alloc, problem, set)?;
     match step_toward(state, target, keep)? {
         Stepped::Larger(larger) => Ok(Some(Ended::Larger(larger))),
         Stepped::Settled => unreachable!(),

@@ -12,7 +12,6 @@ ghost use Rattle.classes.specs.Tables.{IsTableOf, akin_at};
 ghost use Rattle.classes.specs.Turns.{IsGrowth, IsTurn, size_of};
 
 use crate::direction::{Outlook, directions};
-use crate::starting::started;
 use crate::table::Table;
 use families::Family;
 use field_core::Field;
@@ -43,7 +42,7 @@ fn take_member<F: Field>(
         (IsSetOf F.scalars family.now.problem (suc (size_of family.now)))) }
 {
     let _members = family.len();
-    let state = started(family.alloc(), family.problem(), family.member(member))?;
+    let state = Matched::started(family.alloc(), family.problem(), family.member(member))?;
     match directions(&state)? {
         Outlook::Free(line) => Ok(Some(with_free(&state, line)?)),
         Outlook::Directions(directions) => {

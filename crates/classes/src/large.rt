@@ -21,7 +21,6 @@ use crate::missed::{member_missing, missed_of, nonzero_of, separator_of};
 use crate::outcome::Classes;
 use crate::pacing::{Walked, reach};
 use crate::spreads::{Spread, spread_of};
-use crate::starting::started;
 use crate::table::Table;
 use crate::turned::Turned;
 use families::Family;
@@ -81,7 +80,7 @@ fn crossing_of<F: Field>(
     let (alloc, problem) = (family.alloc(), family.problem());
     let (_members, _lines) = (family.len(), problem.len());
     let apart = family.member(separator_of(family, table, label, line));
-    let state = started(alloc, problem, apart)?;
+    let state = Matched::started(alloc, problem, apart)?;
     let first = missed_of(&state, label)?;
     let second = missed_of(&state, line)?;
     let other = family.member(member_missing(family, part)?);
@@ -183,7 +182,7 @@ fn large_turn<F: Field>(
     let (_members, _lines) = (family.len(), problem.len());
     let o = nonzero_of(problem, label);
     let target = family.member(member_missing(family, o)?);
-    let mut state = started(alloc, problem, family.member(0))?;
+    let mut state = Matched::started(alloc, problem, family.member(0))?;
     match reach(&mut state, labels, target, o)? {
         Walked::Larger(larger) => Ok(Turned::Ended(Classes::Larger(larger))),
         Walked::Stray { line, other } => {

@@ -8,8 +8,7 @@ ghost use Rattle.classes.specs.Pacing.{TellsWalk};
 ghost use Rattle.matching_state.specs.Missing.{Misses};
 
 use crate::pacing::{Paced, Walked, step_in_parts};
-use crate::starting::alone;
-use field_core::Field;
+use field_core::{Field, Rows};
 use matching_state::Matched;
 use parity_lines::LineSet;
 use std::alloc::AllocError;
@@ -36,7 +35,7 @@ pub fn last_exchanges<F: Field>(
 {
     let (problem, _set) = (state.problem(), state.set());
     let _lines = problem.len();
-    let keep = alone(state.alloc(), o)?;
+    let keep = Rows::alone(state.alloc(), o)?;
     loop {
         match step_in_parts(state, labels, target, &keep)? {
             Paced::Settled => unreachable!(),

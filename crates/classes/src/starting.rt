@@ -1,39 +1,14 @@
-//! The state of a set, and what it is to miss.
+//! The basis of a set and of what it is to miss.
 
 ghost use Rattle.std.specs.Prelude.{◌≡◌, [], ◌∷◌, ◌++◌, IfOk, length, map};
 ghost use Rattle.matching_state.specs.Missing.{Misses};
-ghost use Rattle.parity_lines.specs.LineSets.{IsIndependentSet};
 ghost use Rattle.parity_lines.specs.Problems.{vectors_at};
 
 use echelon::{Echelon, Inserted};
-use field_core::{Field, Rows};
-use matching_state::{Matched, Start};
-use parity_lines::{LineBasis, LineSet, Problem, basis_of_lines};
-use std::alloc::{AllocError, Global};
-
-/// The state of an independent set.
-pub fn started<'a, F: Field>(
-    alloc: Global,
-    problem: &'a Problem<F>,
-    set: &LineSet,
-) -> Result<Matched<'a, F>, AllocError>
-    requires { IsIndependentSet F.scalars problem.now set.now }
-    ensures { IfOk result (λ state. state ≡ record { problem = problem.now; set = set.now }) }
-{
-    match Matched::start(alloc, problem, set)? {
-        Start::Ready(state) => Ok(state),
-        Start::Relation(_) => unreachable!(),
-    }
-}
-
-/// The vector alone.
-pub fn alone<F: Field>(alloc: Global, v: &[F]) -> Result<Rows<F>, AllocError>
-    ensures { IfOk result (λ rows. rows ≡ record { width = length v.now; rows = map F.number v.now ∷ [] }) }
-{
-    let mut rows = Rows::new(alloc, v.len());
-    rows.push(v)?;
-    Ok(rows)
-}
+use field_core::Field;
+use matching_state::Matched;
+use parity_lines::{LineBasis, basis_of_lines};
+use std::alloc::AllocError;
 
 /// The basis that took the vectors of the set, and then one that the set misses.
 pub fn basis_with<F: Field>(state: &Matched<'_, F>, q: &[F]) -> Result<Echelon<F>, AllocError>

@@ -83,18 +83,6 @@ pub fn stray_support<F: Field>(
     Ok(None)
 }
 
-/// Whether a line is in both sets.
-fn have_common_line(first: &LineSet, second: &LineSet) -> bool
-    ensures { IsTrue result ↔ ((m : ℕ) × Contains first.now m × Contains second.now m) }
-{
-    for i in 0..first.len() {
-        if second.holds(first.at(i)) {
-            return true;
-        }
-    }
-    false
-}
-
 /// Whether the supports of two exposed lines meet.
 pub fn supports_meet<F: Field>(
     state: &Matched<'_, F>,
@@ -110,5 +98,5 @@ pub fn supports_meet<F: Field>(
     let (Some(one), Some(other)) = (support_of(state, first)?, support_of(state, second)?) else {
         unreachable!();
     };
-    Ok(have_common_line(&one, &other))
+    Ok(one.meets(&other))
 }

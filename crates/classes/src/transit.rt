@@ -6,9 +6,9 @@ ghost use Rattle.classes.specs.Sharing.{TellsShared};
 ghost use Rattle.matching_state.specs.Missing.{Misses};
 ghost use Rattle.parity_lines.specs.LineSets.{IsIndependentSet};
 
-use crate::starting::{alone, basis_with, started};
+use crate::starting::basis_with;
 use exchanges::{Moved, move_toward};
-use field_core::Field;
+use field_core::{Field, Rows};
 use matching_state::Matched;
 use parity_lines::{LineSet, Problem};
 use std::alloc::{AllocError, Global};
@@ -40,7 +40,7 @@ fn shared_by<F: Field>(
 {
     let (problem, _set) = (state.problem(), state.set());
     let _lines = problem.len();
-    let keep = alone(state.alloc(), q)?;
+    let keep = Rows::alone(state.alloc(), q)?;
     match move_toward(state, target, &keep)? {
         Moved::Larger(larger) => Ok(Shared::Larger(larger)),
         Moved::Settled => {
@@ -73,6 +73,6 @@ pub fn transit<F: Field>(
     ensures { IfOk result (TellsShared F.scalars problem.now (length set.now)
         (map F.number q.now) target.now (map F.number first.now)) }
 {
-    let mut state = started(alloc, problem, set)?;
+    let mut state = Matched::started(alloc, problem, set)?;
     shared_by(&mut state, q, target, first)
 }

@@ -9,12 +9,12 @@ ghost use Rattle.classes.specs.Turns.{IsTurn, TellsTurned, size_of};
 use crate::labels::Triple;
 use crate::missed::{member_missing, missed_of, nonzero_of, separator_of};
 use crate::outcome::Classes;
-use crate::starting::started;
 use crate::table::Table;
 use crate::transit::{Shared, transit};
 use crate::turned::Turned;
 use families::Family;
 use field_core::Field;
+use matching_state::Matched;
 use std::alloc::AllocError;
 
 /// From a member that misses a vector of the middle line, toward one that separates the others: to a set that separates
@@ -32,7 +32,7 @@ pub fn triple_turn<F: Field>(
     let (alloc, problem) = (family.alloc(), family.problem());
     let (_members, _lines) = (family.len(), problem.len());
     let apart = family.member(separator_of(family, table, triple.first, triple.last));
-    let state = started(alloc, problem, apart)?;
+    let state = Matched::started(alloc, problem, apart)?;
     let first = missed_of(&state, triple.first)?;
     let middle = nonzero_of(problem, triple.middle);
     let other = family.member(member_missing(family, middle)?);

@@ -6,3 +6,4 @@ pub mod SpanningForests
 pub mod EdgeWalks
 pub mod EdgePairs
 pub mod EachOnce
+pub mod EdgeNumbers

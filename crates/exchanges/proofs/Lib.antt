@@ -1,7 +1,6 @@
 pub mod SpansOfLines
 pub mod SwappedSets
 pub mod GrownByRows
-pub mod LinesPassed
 pub mod OffersOfLines
 pub mod SameSpan
 pub mod LargerSets

@@ -1,6 +1,6 @@
 //! A list of vectors of one width.
 
-ghost use Rattle.std.specs.Prelude.{◌≡◌, ◌<◌, ◌^◌, OnOk, OnErr, [], ◌∷◌, ◌++◌, List, ℕ, map, length, slice_index_or};
+ghost use Rattle.std.specs.Prelude.{◌≡◌, ◌<◌, ◌^◌, IfOk, OnOk, OnErr, [], ◌∷◌, ◌++◌, List, ℕ, map, length, slice_index_or};
 ghost use Rattle.linear_algebra.specs.Vectors.{AreVectors};
 
 use crate::{Field, Row};
@@ -36,6 +36,15 @@ impl<F: Field> Rows<F> {
             width,
             rows: Vec::new(alloc),
         }
+    }
+
+    /// The vector alone.
+    pub fn alone(alloc: Global, v: &[F]) -> Result<Rows<F>, AllocError>
+        ensures { IfOk result (λ rows. rows ≡ record { width = length v.now; rows = map F.number v.now ∷ [] }) }
+    {
+        let mut rows = Rows::new(alloc, v.len());
+        rows.push(v)?;
+        Ok(rows)
     }
 
     /// Puts a vector last.

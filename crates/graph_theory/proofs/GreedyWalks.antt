@@ -22,7 +22,7 @@ all_below i [] h = refl
 all_below i (x ∷ xs) h = ap (λ b. cond b (x ∷ below i xs) (below i xs)) (lt-ltb x i (h x (inl refl)))
     ∙ ap (λ z. x ∷ z) (all_below i xs (λ k j. h k (inr j)))
 
-increasing_push : (xs : List ℕ) (m : ℕ) → IsStrictlyIncreasing xs → ((k : ℕ) → In k xs → k < m) → IsStrictlyIncreasing (xs ++ m ∷ [])
+pub increasing_push : (xs : List ℕ) (m : ℕ) → IsStrictlyIncreasing xs → ((k : ℕ) → In k xs → k < m) → IsStrictlyIncreasing (xs ++ m ∷ [])
 increasing_push xs m r h k l = go (dec_lt (k + 1) (length xs))
   where
     left : (i : ℕ) → i < length xs → get_or (xs ++ m ∷ []) i 0 ≡ get_or xs i 0

@@ -40,8 +40,8 @@ abbrev pub ShareCorners : List ((ℕ × ℕ × ℕ) × ℕ) → ℕ × ℕ × �
 ShareCorners [] t = ⊤
 ShareCorners (c ∷ cs) t = In c.1 (corners c.0) × In c.1 (corners (first_triple cs t)) × ShareCorners cs t
 
--- two or more triples T1, .., Tr of the list and vertices v1, .., vr, all different:
--- vi is a corner of Ti and of the next triple, after Tr of T1
+-- two or more triples of the list and as many vertices, all different: each vertex is a corner of its triple and of the next one,
+-- the last vertex of the last triple and of the first
 pub record IsTriangleCycle (Ts : List (ℕ × ℕ × ℕ)) (c : (ℕ × ℕ × ℕ) × ℕ) (cs : List ((ℕ × ℕ × ℕ) × ℕ)) : Type 0 where
   pub two : 2 ≤ length (c ∷ cs)
   pub inside : (t : ℕ × ℕ × ℕ) → In t (map (λ k. k.0) (c ∷ cs)) → In t Ts

@@ -64,6 +64,21 @@ impl<'a, F: Field> Matched<'a, F> {
         }
     }
 
+    /// The state of an independent set.
+    pub fn started(
+        alloc: Global,
+        problem: &'a Problem<F>,
+        set: &LineSet,
+    ) -> Result<Matched<'a, F>, AllocError>
+        requires { IsIndependentSet F.scalars problem.now set.now }
+        ensures { IfOk result (λ state. state ≡ record { problem = problem.now; set = set.now }) }
+    {
+        match Matched::start(alloc, problem, set)? {
+            Start::Ready(state) => Ok(state),
+            Start::Relation(_) => unreachable!(),
+        }
+    }
+
     /// The set M.
     pub fn set(&self) -> &LineSet
         ensures value { result.now ≡ self.now.set }

@@ -1,5 +1,5 @@
 -- A basis of the multiples of a vector.
-use Rattle.std.proofs.Common.{◌≡◌, ℕ, List, [], ◌∷◌, ◌++◌, ap, ◌∙◌, subst}
+use Rattle.std.proofs.Common.{◌≡◌, ℕ, List, [], ◌∷◌, subst}
 use Rattle.std.proofs.lemmas.List.Elements.{All-nil, All-cons}
 use Rattle.field_core.specs.Matrix.{Matrix}
 use Rattle.linear_algebra.specs.Scalars.{Scalars, IsField}
@@ -9,12 +9,9 @@ use Rattle.linear_algebra.proofs.SpanLaws.{span_through}
 use Rattle.echelon.specs.Grown.{IsBasisOf}
 use Rattle.exchanges.specs.Spans.{HasSpan}
 
-abbrev pub pushed : List ℕ → Matrix → Matrix
-pushed v m = record { width = m.width; rows = m.rows ++ v ∷ [] }
-
-pub basis_has_span : (S : Scalars) → IsField S → (d : ℕ) (v : List ℕ) (none rows basis : Matrix) → IsVector S d v →
-    none ≡ record { width = d; rows = [] } → rows ≡ pushed v none → IsBasisOf S rows basis → HasSpan S d (v ∷ []) basis
-basis_has_span S F d v none rows basis h e e' b = go (subst (λ (m : Matrix). IsBasisOf S m basis) (e' ∙ ap (pushed v) e) b)
+pub basis_has_span : (S : Scalars) → IsField S → (d : ℕ) (v : List ℕ) (rows basis : Matrix) → IsVector S d v →
+    rows ≡ record { width = d; rows = v ∷ [] } → IsBasisOf S rows basis → HasSpan S d (v ∷ []) basis
+basis_has_span S F d v rows basis h e b = go (subst (λ (m : Matrix). IsBasisOf S m basis) e b)
   where
     go : IsBasisOf S (record { width = d; rows = v ∷ [] }) basis → HasSpan S d (v ∷ []) basis
     go k =

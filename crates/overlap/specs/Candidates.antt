@@ -7,6 +7,7 @@ use Rattle.linear_algebra.specs.Spans.{InSpan}
 use Rattle.matching_state.specs.LinePlaces.{IsExposed, IsOuter, IsTip}
 use Rattle.matching_state.specs.Supports.{IsSupport}
 use Rattle.overlap.specs.declared.candidates.Candidate.{Candidate}
+use Rattle.parity_lines.specs.LineSets.{HaveCommonLine}
 use Rattle.parity_lines.specs.Problems.{ParityProblem, vectors_at}
 
 -- x has the support of an exposed line, by some tip, and the residue of an outer of it
@@ -25,10 +26,6 @@ pub record IsCandidate {X : Type 0} (S : Scalars) (p : ParityProblem) (M : List 
 pub record AreCandidates {X : Type 0} (S : Scalars) (p : ParityProblem) (M : List ℕ) (n : ℕ) (xs : List (Candidate X)) : Type 0 where
   pub candidates : All (IsCandidate S p M) xs
   pub all : (e : ℕ) → e < n → IsExposed S p M e → (x : Candidate X) × Contains xs x × (x.line ≡ e)
-
--- the same line is in both
-abbrev pub HaveCommonLine : List ℕ → List ℕ → Type 0
-HaveCommonLine L K = (m : ℕ) × Contains L m × Contains K m
 
 -- the supports have a common line, and y's residue, of length d, is no multiple of x's
 pub record DoOverlap {X : Type 0} (S : Scalars) (d : ℕ) (x y : Candidate X) : Type 0 where

@@ -2,7 +2,7 @@
 
 ghost use Rattle.std.specs.Prelude.{◌≡◌, ◌↔◌, [], ◌∷◌, All, IfOk, IsTrue, MatchOption, length, map};
 ghost use Rattle.exchanges.specs.Spans.{HasSpan};
-ghost use Rattle.overlap.specs.Candidates.{HaveCommonLine, DoOverlap, HaveOverlap, HasPartner};
+ghost use Rattle.overlap.specs.Candidates.{DoOverlap, HaveOverlap, HasPartner};
 
 use crate::candidates::Candidate;
 use echelon::{Echelon, basis_of};
@@ -10,24 +10,11 @@ use field_core::{Field, Rows};
 use parity_lines::LineSet;
 use std::alloc::{AllocError, Global};
 
-/// Whether the same line is in both sets.
-fn have_common_line(first: &LineSet, second: &LineSet) -> bool
-    ensures { IsTrue result ↔ HaveCommonLine first.now second.now }
-{
-    for i in 0..first.len() {
-        if second.holds(first.at(i)) {
-            return true;
-        }
-    }
-    false
-}
-
 /// The multiples of a vector.
 fn multiples_of<F: Field>(alloc: Global, v: &[F]) -> Result<Echelon<F>, AllocError>
     ensures { IfOk result (HasSpan F.scalars (length v.now) (map F.number v.now ∷ [])) }
 {
-    let mut rows = Rows::new(alloc, v.len());
-    rows.push(v)?;
+    let rows = Rows::alone(alloc, v)?;
     basis_of(alloc, &rows)
 }
 
@@ -41,7 +28,7 @@ fn do_overlap<F: Field>(
     requires long { length second.now.residue ≡ multiples.now.width }
     ensures { IfOk result (λ told. IsTrue told ↔ DoOverlap F.scalars multiples.now.width first.now second.now) }
 {
-    if !have_common_line(&first.support, &second.support) {
+    if !first.support.meets(&second.support) {
         return Ok(false);
     }
     let factor = multiples.coefficients(second.residue.as_slice())?;

@@ -1,6 +1,6 @@
 //! From a set that misses the point of an overlap to a longer one.
 
-ghost use Rattle.std.specs.Prelude.{◌≡◌, ◌⊎◌, ◌↔◌, [], ◌∷◌, ℕ, IfOk, length, map};
+ghost use Rattle.std.specs.Prelude.{◌≡◌, ◌⊎◌, ◌↔◌, [], ◌∷◌, ℕ, IfOk, length};
 ghost use Rattle.std.specs.List.{Contains};
 ghost use Rattle.std.specs.List.Sorted.{IsStrictlyIncreasing};
 ghost use Rattle.exchanges.specs.Exchanges.{IsLonger};
@@ -10,24 +10,9 @@ ghost use Rattle.parity_lines.specs.LineSets.{IsIndependentSet};
 use crate::Overlap;
 use exchanges::{Moved, move_toward};
 use field_core::{Field, Rows};
-use matching_state::{Matched, Start};
-use parity_lines::{LineSet, Problem};
-use std::alloc::{AllocError, Global};
-
-/// The state of an independent set.
-fn started<'a, F: Field>(
-    alloc: Global,
-    problem: &'a Problem<F>,
-    set: &LineSet,
-) -> Result<Matched<'a, F>, AllocError>
-    requires { IsIndependentSet F.scalars problem.now set.now }
-    ensures { IfOk result (λ state. state ≡ record { problem = problem.now; set = set.now }) }
-{
-    match Matched::start(alloc, problem, set)? {
-        Start::Ready(state) => Ok(state),
-        Start::Relation(_) => unreachable!(),
-    }
-}
+use matching_state::Matched;
+use parity_lines::LineSet;
+use std::alloc::AllocError;
 
 /// The lines of the set, and the two.
 fn lines_with(set: &LineSet, first: usize, second: usize) -> Result<LineSet, AllocError>
@@ -35,15 +20,6 @@ fn lines_with(set: &LineSet, first: usize, second: usize) -> Result<LineSet, All
 {
     let more = set.with(first)?;
     more.with(second)
-}
-
-/// The vector alone.
-fn alone<F: Field>(alloc: Global, v: &[F]) -> Result<Rows<F>, AllocError>
-    ensures { IfOk result (λ rows. rows ≡ record { width = length v.now; rows = map F.number v.now ∷ [] }) }
-{
-    let mut rows = Rows::new(alloc, v.len());
-    rows.push(v)?;
-    Ok(rows)
 }
 
 /// An independent set that is one line longer than `set`, which is as long as M and misses the point.
@@ -57,8 +33,8 @@ pub fn raise<F: Field>(overlap: &Overlap<'_, F>, set: &LineSet) -> Result<LineSe
     let _lines = problem.len();
     let (first, second) = overlap.lines();
     let target = lines_with(overlap.set(), first, second)?;
-    let keep = alone(overlap.alloc(), overlap.point())?;
-    let mut state = started(overlap.alloc(), problem, set)?;
+    let keep = Rows::alone(overlap.alloc(), overlap.point())?;
+    let mut state = Matched::started(overlap.alloc(), problem, set)?;
     match move_toward(&mut state, &target, &keep)? {
         Moved::Larger(longer) => Ok(longer),
         Moved::Settled => unreachable!(),

@@ -6,3 +6,4 @@ pub mod LinePairs
 pub mod LineSets
 pub mod Relations
 pub mod NoRelation
+pub mod LinesPassed

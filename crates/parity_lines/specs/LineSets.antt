@@ -1,5 +1,6 @@
 -- Sets of lines: independent ones, and the largest of them.
 use Rattle.std.specs.Prelude.{ℕ, ◌<◌, ◌≤◌, List, length, All}
+use Rattle.std.specs.List.{Contains}
 use Rattle.std.specs.List.Sorted.{IsStrictlyIncreasing}
 use Rattle.linear_algebra.specs.Scalars.{Scalars}
 use Rattle.linear_algebra.specs.Spans.{IsIndependent}
@@ -9,6 +10,10 @@ use Rattle.parity_lines.specs.Problems.{ParityProblem, vectors_at}
 pub record IsLineSet (p : ParityProblem) (L : List ℕ) : Type 0 where
   pub increasing : IsStrictlyIncreasing L
   pub within : All (λ m. m < length p.lines) L
+
+-- the same line is in both
+abbrev pub HaveCommonLine : List ℕ → List ℕ → Type 0
+HaveCommonLine L K = (m : ℕ) × Contains L m × Contains K m
 
 -- the vectors of the lines of L, two a line, are an independent list
 pub record IsIndependentSet (S : Scalars) (p : ParityProblem) (L : List ℕ) : Type 0 where

@@ -3,6 +3,7 @@
 ghost use Rattle.std.specs.Prelude.{◌≡◌, ◌≢◌, ◌<◌, ◌↔◌, ◌⊎◌, [], ◌∷◌, ◌++◌, ℕ, All, IfOk, OnOk, OnErr, IsTrue, length, slice_index};
 ghost use Rattle.std.specs.List.{Contains};
 ghost use Rattle.std.specs.List.Sorted.{IsStrictlyIncreasing};
+ghost use Rattle.parity_lines.specs.LineSets.{HaveCommonLine};
 
 use std::alloc::{AllocError, Global};
 use std::marker::Model;
@@ -98,5 +99,17 @@ impl LineSet {
         ensures { IsTrue result ↔ Contains self.now line }
     {
         self.lines.binary_search(&line).is_ok()
+    }
+
+    /// Tells whether a line is in both sets.
+    pub fn meets(&self, other: &LineSet) -> bool
+        ensures { IsTrue result ↔ HaveCommonLine self.now other.now }
+    {
+        for i in 0..self.len() {
+            if other.holds(self.at(i)) {
+                return true;
+            }
+        }
+        false
     }
 }

@@ -11,14 +11,16 @@ use Rattle.parity_program.specs.Improvements.{Improvement, improvement_status}
 use Rattle.parity_program.specs.Improvements.Improvement.{larger, none, dependent}
 use Rattle.parity_program.specs.Inputs.{Input, input_of, reading, told_to}
 use Rattle.line_lexer.specs.Seen.{most_bytes}
-use Rattle.parity_program.specs.Inputs.Input.{answered, chosen, generated}
+use Rattle.parity_program.specs.Inputs.Input.{answered, chosen, posed, of_graph, generated}
 use Rattle.parity_program.specs.Outcome.{OfTold, RepliesToBytes, Replies, Refuses, Outcome, HasReadCause, HasWriteCause, HasByteCause}
 use Rattle.parity_program.specs.Outcome.{NoFault, NoReadFault, IsAnsweredOrOutOfMemory, EndsAfterReading}
 use Rattle.parity_program.specs.Replies.{ReplyText, IsReply, verdict_status}
 use Rattle.parity_program.specs.Shown.{RepliesTo, RepliesOrRefuses, IsNoByteLimit, IsWritten, shown, status_of_read}
 use Rattle.parity_program.specs.declared.command.Command.{Command}
-use Rattle.parity_program.specs.declared.command.Command.TheVariants.{OverProblem}
-use Rattle.parity_program.specs.declared.command.ProblemCommand.{ProblemCommand}
+use Rattle.parity_program.specs.declared.command.Command.TheVariants.{OfText}
+use Rattle.parity_program.specs.declared.command.GraphCommand.TheVariants.{Find, Convert}
+use Rattle.parity_program.specs.declared.command.GraphObject.TheVariants.{Matching, Cactus}
+use Rattle.parity_program.specs.declared.command.TextCommand.{TextCommand}
 use Rattle.parity_program.specs.declared.reply.Reply.{Reply}
 use Rattle.parity_program.specs.declared.status.Status.{Status}
 use Rattle.parity_program.specs.declared.status.Status.TheVariants.{Done, No, Usage, BadText, Limit, NotConnected, ReadFault, WriteFault}
@@ -53,18 +55,18 @@ some_longer zero = (0 ∷ [], omega arith)
 some_longer (suc n) = let more = some_longer n in (0 ∷ more.0, omega (arith, more.1))
 
 -- the reply to what was read, or its refusal, is that to what is told
-pub of_all_read : (command : ProblemCommand) (left : Option (List ℕ)) (bytes : List ℕ) (result : Result Reply Status)
+pub of_all_read : (command : TextCommand) (left : Option (List ℕ)) (bytes : List ℕ) (result : Result Reply Status)
     → IfSome left (λ all. bytes ≡ all) → length bytes ≤ most_bytes
-    → RepliesTo (input_of (OverProblem command) bytes) result → RepliesOrRefuses (OverProblem command) left result
+    → RepliesTo (input_of (OfText command) bytes) result → RepliesOrRefuses (OfText command) left result
 of_all_read command left bytes (Ok reply) whole few h =
-    of_read (RepliesToBytes (OverProblem command) (shown reply)) left bytes whole (h.0, short (OverProblem command) bytes few ∙ h.1, h.2)
-of_all_read command left bytes (Err status) whole few (inl memory) = subst (Refuses (OverProblem command) left) (sym memory) tt
+    of_read (RepliesToBytes (OfText command) (shown reply)) left bytes whole (h.0, short (OfText command) bytes few ∙ h.1, h.2)
+of_all_read command left bytes (Err status) whole few (inl memory) = subst (Refuses (OfText command) left) (sym memory) tt
 of_all_read command left bytes (Err status) whole few (inr refused) =
-    refuses status (of_read (λ bytes. reading (OverProblem command) bytes ≡ Err status) left bytes whole
-    (short (OverProblem command) bytes few ∙ refused))
+    refuses status (of_read (λ bytes. reading (OfText command) bytes ≡ Err status) left bytes whole
+    (short (OfText command) bytes few ∙ refused))
   where
-    refuses : (status : Status) → OfTold (λ bytes. reading (OverProblem command) bytes ≡ Err status) left
-        → Refuses (OverProblem command) left status
+    refuses : (status : Status) → OfTold (λ bytes. reading (OfText command) bytes ≡ Err status) left
+        → Refuses (OfText command) left status
     refuses ReadFault h = refl
     refuses OutOfMemory h = tt
     refuses Done h = h
@@ -76,14 +78,14 @@ of_all_read command left bytes (Err status) whole few (inr refused) =
     refuses WriteFault h = h
 
 -- bytes that can't be had
-pub unread_refuses : (command : ProblemCommand) (left : Option (List ℕ)) (before now : ℕ) (e : ReadAnswer)
+pub unread_refuses : (command : TextCommand) (left : Option (List ℕ)) (before now : ℕ) (e : ReadAnswer)
     → HasLengthCause {T = Unit {0}} most_bytes left before now (Err e)
-    → Refuses (OverProblem command) left (status_of_read e)
+    → Refuses (OfText command) left (status_of_read e)
 unread_refuses command left before now read.Fault h = refl
 unread_refuses command None before now read.TooLong h =
     let longer = some_longer most_bytes in
-    (longer.0, too_long (OverProblem command) longer.0 longer.1)
-unread_refuses command (Some bytes) before now read.TooLong h = too_long (OverProblem command) bytes h.held
+    (longer.0, too_long (OfText command) longer.0 longer.1)
+unread_refuses command (Some bytes) before now read.TooLong h = too_long (OfText command) bytes h.held
 unread_refuses command left before now read.OutOfMemory h = tt
 
 pub unread_cause : (before now : ℕ) (e : ReadAnswer) → HasFaultCause {T = Unit {0}} before now (Err e)
@@ -178,6 +180,10 @@ ends (chosen q p M) reply h = improvement h.0 (ap (λ r. r.status) h.2)
     improvement (larger N) e = inl e
     improvement none e = inl e
     improvement (dependent cs) e = inr e
+ends (posed q p) reply h = inl (ap (λ r. r.status) h.3)
+ends (of_graph (Find Matching) g) reply h = inl (ap (λ r. r.status) h.2)
+ends (of_graph (Find Cactus) g) reply h = inl (ap (λ r. r.status) h.3)
+ends (of_graph (Convert object) g) reply h = inl (ap (λ r. r.status) h.2)
 ends (generated n) reply h = inl (ap (λ r. r.status) h.2)
 
 replies_end : (command : Command) (known : Option (List ℕ)) (reply : ReplyText) → OfTold (RepliesToBytes command reply) known

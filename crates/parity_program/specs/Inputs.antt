@@ -1,30 +1,41 @@
 -- What the bytes mean that a command is told: an input, or the status that refuses them.
 use Rattle.std.specs.Prelude.{ℕ, ◌+◌, List, [], length, nat_lt, if◌then◌else◌, Option, Some, Result, Ok, Err}
+use Rattle.graph_core.specs.NamedGraphs.{NamedGraph}
+use Rattle.graph_text.specs.Texts.{graph}
 use Rattle.line_lexer.specs.Lines.{Line}
 use Rattle.line_lexer.specs.Seen.{most_bytes}
-use Rattle.line_lexer.specs.declared.refusal.Counted.TheVariants.{Bytes}
+use Rattle.line_lexer.specs.declared.refusal.Counted.TheVariants.{Bytes, Triangles}
 use Rattle.line_lexer.specs.declared.refusal.TextRefusal.{TextRefusal}
 use Rattle.line_lexer.specs.declared.refusal.TextRefusal.TheVariants as refusal
 use Rattle.parity_lines.specs.Problems.{ParityProblem}
 use Rattle.parity_program.specs.Commands.{reads_source}
+use Rattle.parity_program.specs.Triangles.{triangle_count}
 use Rattle.parity_program.specs.declared.command.Command.{Command}
-use Rattle.parity_program.specs.declared.command.Command.TheVariants.{OverProblem, OfNumber}
+use Rattle.parity_program.specs.declared.command.Command.TheVariants.{OfText, OfNumber}
+use Rattle.parity_program.specs.declared.command.GraphCommand.{GraphCommand}
+use Rattle.parity_program.specs.declared.command.GraphCommand.TheVariants.{Find, Convert}
+use Rattle.parity_program.specs.declared.command.GraphObject.{GraphObject}
+use Rattle.parity_program.specs.declared.command.GraphObject.TheVariants.{Matching, Cactus}
 use Rattle.parity_program.specs.declared.command.NumberCommand.{NumberCommand}
 use Rattle.parity_program.specs.declared.command.NumberCommand.TheVariants.{Generate}
 use Rattle.parity_program.specs.declared.command.ProblemCommand.{ProblemCommand}
-use Rattle.parity_program.specs.declared.command.ProblemCommand.TheVariants.{Check, Improve}
+use Rattle.parity_program.specs.declared.command.ProblemCommand.TheVariants.{Check, Improve, Solve}
+use Rattle.parity_program.specs.declared.command.TextCommand.{TextCommand}
+use Rattle.parity_program.specs.declared.command.TextCommand.TheVariants.{OverProblem, OverGraph}
 use Rattle.parity_program.specs.declared.status.Status.{Status}
 use Rattle.parity_program.specs.declared.status.Status.TheVariants.{BadText, Limit, OutOfMemory}
 use Rattle.parity_text.specs.Files.{problem_with}
 use Rattle.parity_text.specs.Texts.{answer, choice}
 use Rattle.parity_text.specs.Values.{AnswerValue}
 use Rattle.text_forms.specs.Forms.{Form, of_text}
-use Rattle.text_forms.specs.Reading.{◌>>=◌, give}
+use Rattle.text_forms.specs.Reading.{Reads, ◌>>=◌, give, above}
 
--- the order of a field, a problem over it, and an answer or a set of lines; or the number of a problem
+-- the order of a field, a problem over it, and an answer, a set of lines or nothing more; a graph; or the number of a problem
 pub data Input : Type 0 where
   answered : ℕ → ParityProblem → AnswerValue → Input
   chosen : ℕ → ParityProblem → List ℕ → Input
+  posed : ℕ → ParityProblem → Input
+  of_graph : GraphCommand → NamedGraph → Input
   generated : ℕ → Input
 
 -- what a command over a problem reads behind it
@@ -35,14 +46,46 @@ behind Check q p = do
 behind Improve q p = do
   set ← choice (length p.lines)
   give (chosen q p set)
+behind Solve q p = give (posed q p)
+
+-- how many vertices and triangles a graph may have
+abbrev pub most_vertices : ℕ
+most_vertices = 128
+
+abbrev pub most_triangles : ℕ
+most_triangles = 2048
+
+-- the graph, if it has no more triangles than it may
+abbrev pub with_few_triangles : {T : Type 0} → NamedGraph → Reads T NamedGraph
+with_few_triangles g =
+    let count : ℕ = triangle_count (length g.names) g.ends in
+    if nat_lt most_triangles count then above Triangles count else give g
+
+-- a graph in which the object is looked for, within the limits
+abbrev pub graph_for : GraphObject → Form NamedGraph
+graph_for Matching = graph most_vertices
+graph_for Cactus = do
+  g ← graph most_vertices
+  with_few_triangles g
+
+-- what a command over a graph is about
+abbrev pub object_of : GraphCommand → GraphObject
+object_of (Find object) = object
+object_of (Convert object) = object
 
 -- what a command of a number is about
 abbrev pub numbered : NumberCommand → ℕ → Input
 numbered Generate n = generated n
 
 -- the form of what a command reads
+abbrev pub text_form : TextCommand → Form Input
+text_form (OverProblem command) = problem_with (behind command)
+text_form (OverGraph command) = do
+  g ← graph_for (object_of command)
+  give (of_graph command g)
+
 abbrev pub input_form : Command → Form Input
-input_form (OverProblem command) = problem_with (behind command)
+input_form (OfText command) = text_form command
 input_form (OfNumber command n) = give (numbered command n)
 
 -- What a command is told of the bytes that the source has left: all, or the empty text where it reads nothing.

@@ -1,5 +1,6 @@
 pub mod StatusLines
 pub mod Commands
+pub mod Triangles
 pub mod Inputs
 pub mod Improvements
 pub mod Replies

@@ -1,5 +1,5 @@
 -- Words of the contracts of private functions alone: how replies of the code are seen, and what they say of what is read.
-use Rattle.std.specs.Prelude.{◌≡◌, ◌≢◌, ℕ, ◌+◌, ◌^◌, ◌<◌, ◌≤◌, ◌⊎◌, List, length, Option, Result, Ok, Err}
+use Rattle.std.specs.Prelude.{◌≡◌, ◌≢◌, ℕ, ◌+◌, ◌≤◌, ◌⊎◌, List, length, Option, Result, Ok, Err}
 use Rattle.std.specs.Io.KnownBytes.{Appends}
 use Rattle.line_lexer.specs.Lines.{lines}
 use Rattle.line_lexer.specs.Seen.{Seen, most_bytes}

@@ -1,19 +1,30 @@
 //! The commands.
 
-ghost use Rattle.std.specs.Prelude.{◌≡◌, ◌≢◌, ℕ, ◌^◌, ◌<◌, [], ◌∷◌, IfSome, MatchOption, Some};
+ghost use Rattle.std.specs.Prelude.{◌≡◌, ◌≢◌, ℕ, ◌^◌, ◌<◌, [], ◌∷◌, IfSome, MatchOption, Some, codes};
+ghost use Rattle.parity_program.specs.declared.command.GraphObject.{GraphObject};
 ghost use Rattle.parity_program.specs.declared.command.NumberCommand.{NumberCommand};
 ghost use Rattle.parity_program.specs.declared.command.ProblemCommand.{ProblemCommand};
 ghost use Rattle.std.specs.Fmt.{decimal};
 ghost use Rattle.std.specs.Str.{bytes_eq};
-ghost use Rattle.parity_program.specs.Commands.{Named, words_of, problem_word, number_word};
+ghost use Rattle.parity_program.specs.Inputs.{object_of};
+ghost use Rattle.parity_program.specs.Commands.{Named, words_of, problem_word, object_word, number_word};
 
 /// What the program is asked to do.
 #[derive(Clone, Copy, Debug, Drop, PartialEq, Eq)]
 pub enum Command {
-    /// Reads a problem and what stands behind it.
-    OverProblem(ProblemCommand),
+    /// Reads a text.
+    OfText(TextCommand),
     /// Reads nothing, and is about a number.
     OfNumber(NumberCommand, u32),
+}
+
+/// What is asked of a text.
+#[derive(Clone, Copy, Debug, Drop, PartialEq, Eq)]
+pub enum TextCommand {
+    /// Reads a problem and what stands behind it.
+    OverProblem(ProblemCommand),
+    /// Reads a graph.
+    OverGraph(GraphCommand),
 }
 
 /// What is asked of a problem and what stands behind it.
@@ -23,6 +34,26 @@ pub enum ProblemCommand {
     Check,
     /// Makes a longer independent set of lines by one step.
     Improve,
+    /// Makes a largest independent set of lines, with its certificate.
+    Solve,
+}
+
+/// What is asked of a graph.
+#[derive(Clone, Copy, Debug, Drop, PartialEq, Eq)]
+pub enum GraphCommand {
+    /// Finds a largest object in it.
+    Find(GraphObject),
+    /// Writes the parity problem by which the object is found.
+    Convert(GraphObject),
+}
+
+/// What is looked for in a graph.
+#[derive(Clone, Copy, Debug, Drop, PartialEq, Eq)]
+pub enum GraphObject {
+    /// Edges of which no two have a common end.
+    Matching,
+    /// Triangles of which none make a cycle.
+    Cactus,
 }
 
 /// What is asked of a number.
@@ -42,6 +73,35 @@ impl ProblemCommand {
             Some(ProblemCommand::Check)
         } else if word == "improve" {
             Some(ProblemCommand::Improve)
+        } else if word == "solve" {
+            Some(ProblemCommand::Solve)
+        } else {
+            None
+        }
+    }
+}
+
+impl GraphCommand {
+    /// What the command is about.
+    pub fn object(self) -> GraphObject
+        ensures { result ≡ object_of self }
+    {
+        match self {
+            GraphCommand::Find(object) | GraphCommand::Convert(object) => object,
+        }
+    }
+}
+
+impl GraphObject {
+    /// The object of this word.
+    fn of(word: &str) -> Option<GraphObject>
+        ensures { MatchOption result ((object : GraphObject) → word.now ≢ object_word object)
+            (λ object. word.now ≡ object_word object) }
+    {
+        if word == "matching" {
+            Some(GraphObject::Matching)
+        } else if word == "cactus" {
+            Some(GraphObject::Cactus)
         } else {
             None
         }
@@ -93,12 +153,37 @@ fn plain_number(word: &str) -> Option<u32>
 fn of_word(word: &str) -> Option<Command>
     ensures { Named (word.now ∷ []) result }
 {
-    let command = ProblemCommand::of(word)?;
-    Some(Command::OverProblem(command))
+    match ProblemCommand::of(word) {
+        Some(command) => Some(Command::OfText(TextCommand::OverProblem(command))),
+        None => {
+            let object = GraphObject::of(word)?;
+            Some(Command::OfText(TextCommand::OverGraph(GraphCommand::Find(object))))
+        }
+    }
 }
 
-/// The command of a word and a number.
+/// The conversion that the second of two words names, where the first is `convert`.
+fn of_conversion(word: &str) -> Option<Command>
+    ensures { Named (codes "convert" ∷ word.now ∷ []) result }
+{
+    let object = GraphObject::of(word)?;
+    Some(Command::OfText(TextCommand::OverGraph(GraphCommand::Convert(object))))
+}
+
+/// The command of two words: a conversion, or that of a word and a number.
+fn of_two_words(word: &str, second: &str) -> Option<Command>
+    ensures { Named (word.now ∷ second.now ∷ []) result }
+{
+    if word == "convert" {
+        of_conversion(second)
+    } else {
+        of_word_and_number(word, second)
+    }
+}
+
+/// The command of a word, which isn't `convert`, and a number.
 fn of_word_and_number(word: &str, number: &str) -> Option<Command>
+    requires { word.now ≢ codes "convert" }
     ensures { Named (word.now ∷ number.now ∷ []) result }
 {
     let command = NumberCommand::of(word)?;
@@ -113,7 +198,7 @@ impl Command {
     {
         match words {
             [word] => of_word(word.as_str()),
-            [word, number] => of_word_and_number(word.as_str(), number.as_str()),
+            [word, second] => of_two_words(word.as_str(), second.as_str()),
             _ => None,
         }
     }

@@ -4,21 +4,28 @@ ghost use Rattle.std.specs.Prelude.{◌≡◌, ◌≤◌, Err, IfErr, IfOk, leng
 ghost use Rattle.line_lexer.specs.declared.refusal.TextRefusal.{TextRefusal};
 ghost use Rattle.parity_program.specs.Inputs.{behind, input_of, numbered, status_of};
 ghost use Rattle.line_lexer.specs.Seen.{most_bytes};
-ghost use Rattle.parity_program.specs.Replies.{IsReply};
+ghost use Rattle.parity_program.specs.Replies.{IsGraphReply, IsReply};
 ghost use Rattle.parity_program.specs.Shown.{IsNoByteLimit, RepliesTo, meant_by, shown};
-ghost use Rattle.parity_program.specs.declared.command.Command.TheVariants.{OverProblem};
+ghost use Rattle.parity_program.specs.declared.command.Command.TheVariants.{OfText};
+ghost use Rattle.parity_program.specs.declared.command.TextCommand.TheVariants.{OverProblem, OverGraph};
 ghost use Rattle.parity_text.specs.Texts.{head, problem};
 ghost use Rattle.small_fields.specs.FieldName.{order_of};
 ghost use Rattle.small_fields.specs.ScalarsOf.{scalars_of};
 ghost use Rattle.text_forms.specs.Forms.{of_text};
 ghost use Rattle.text_forms.specs.Reading.{chain};
 
+use crate::cactus::cactus;
 use crate::check::check;
+use crate::convert::convert;
 use crate::generate::generate;
+use crate::graph_reader::graph_of;
 use crate::improve::improve;
+use crate::matching::matching;
 use crate::reply::Reply;
-use crate::{NumberCommand, ProblemCommand, Status};
+use crate::solve::solve;
+use crate::{GraphCommand, GraphObject, NumberCommand, ProblemCommand, Status, TextCommand};
 use field_core::Field;
+use graph_core::Graph;
 use line_lexer::Lexer;
 use parity_text::{read_head, read_problem};
 use small_fields::{F2, F3, F5, F251, F256, FieldName};
@@ -38,6 +45,7 @@ fn reply_over<F: Field>(
     match command {
         ProblemCommand::Check => check(alloc, lexer, &problem),
         ProblemCommand::Improve => improve(alloc, lexer, &problem),
+        ProblemCommand::Solve => solve(alloc, lexer, &problem),
     }
 }
 
@@ -60,10 +68,10 @@ fn reply_named(
     }
 }
 
-/// The reply to the bytes of an input.
-pub fn reply_to(alloc: Global, command: ProblemCommand, bytes: &[u8]) -> Result<Reply, Status>
+/// The reply to the bytes of an input that begins with a problem.
+fn reply_to_problem(alloc: Global, command: ProblemCommand, bytes: &[u8]) -> Result<Reply, Status>
     requires { length bytes.now ≤ most_bytes }
-    ensures replies { RepliesTo (input_of (OverProblem command) bytes.now) result }
+    ensures replies { RepliesTo (input_of (OfText (OverProblem command)) bytes.now) result }
     ensures kind { IfErr result IsNoByteLimit }
 
     // The head takes no memory: where it is refused, want of memory is no answer.
@@ -72,6 +80,40 @@ pub fn reply_to(alloc: Global, command: ProblemCommand, bytes: &[u8]) -> Result<
     let mut lexer = Lexer::new(bytes);
     let name = read_head(&mut lexer)?;
     reply_named(alloc, command, name, &mut lexer)
+}
+
+/// The reply to a graph.
+fn reply_of_graph(alloc: Global, command: GraphCommand, graph: &Graph) -> Result<Reply, AllocError>
+    ensures { IfOk result (λ reply. IsGraphReply command graph.now (shown reply)) }
+{
+    match command {
+        GraphCommand::Find(GraphObject::Matching) => matching(alloc, graph),
+        GraphCommand::Find(GraphObject::Cactus) => cactus(alloc, graph),
+        GraphCommand::Convert(object) => convert(alloc, object, graph),
+    }
+}
+
+/// The reply to the bytes of a graph.
+fn reply_to_graph(alloc: Global, command: GraphCommand, bytes: &[u8]) -> Result<Reply, Status>
+    requires { length bytes.now ≤ most_bytes }
+    ensures replies { RepliesTo (input_of (OfText (OverGraph command)) bytes.now) result }
+    ensures kind { IfErr result IsNoByteLimit }
+{
+    let mut lexer = Lexer::new(bytes);
+    let graph = graph_of(alloc, command.object(), &mut lexer)?;
+    Ok(reply_of_graph(alloc, command, &graph)?)
+}
+
+/// The reply to the bytes of an input.
+pub fn reply_to(alloc: Global, command: TextCommand, bytes: &[u8]) -> Result<Reply, Status>
+    requires { length bytes.now ≤ most_bytes }
+    ensures replies { RepliesTo (input_of (OfText command) bytes.now) result }
+    ensures kind { IfErr result IsNoByteLimit }
+{
+    match command {
+        TextCommand::OverProblem(command) => reply_to_problem(alloc, command, bytes),
+        TextCommand::OverGraph(command) => reply_to_graph(alloc, command, bytes),
+    }
 }
 
 /// The reply to a number.

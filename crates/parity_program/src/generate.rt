@@ -4,7 +4,6 @@ ghost use Rattle.std.specs.Prelude.{IfOk};
 ghost use Rattle.parity_program.specs.Replies.{IsGeneratedReply};
 ghost use Rattle.parity_program.specs.Shown.{shown};
 
-use crate::Status;
 use crate::reply::Reply;
 use generator::problem;
 use parity_text::write_problem;
@@ -17,8 +16,5 @@ pub fn generate(alloc: Global, n: u32) -> Result<Reply, AllocError>
     let problem = problem(alloc, n)?;
     let mut text = Vec::new(alloc);
     write_problem(&mut text, &problem)?;
-    Ok(Reply {
-        text,
-        status: Status::Done,
-    })
+    Ok(Reply::done(text))
 }

@@ -5,7 +5,8 @@
 //! `specs/Inputs.antt` what the bytes mean to each, `specs/Replies.antt` what the reply is,
 //! `specs/Outcome.antt` what each status says, `specs/StatusLines.antt` the codes and lines. `check` replies
 //! with the verdict on an answer, `improve` with a longer independent set that one step makes of a set of lines,
-//! that there is none, or a relation (`specs/Improvements.antt`), `generate` with the problem of a number.
+//! that there is none, or a relation (`specs/Improvements.antt`), `solve` with a good answer, `matching` and `cactus` with
+//! a largest object of a graph, `convert` with the problem of a graph, `generate` with the problem of a number.
 //! `main` only makes the real source and sink. `specs/Shown.antt` has what only private functions speak of, and
 //! `proofs/Refusals.antt` and `proofs/Outcomes.antt` what the proofs of a command and of a run share.
 #![tactic(auto)]
@@ -14,19 +15,29 @@ ghost use Rattle.std.specs.Prelude.{◌≡◌};
 ghost use Rattle.std.specs.Process.{exit_status};
 ghost use Rattle.parity_program.specs.StatusLines.{code_of};
 
+mod cactus;
 mod check;
 mod command;
+mod convert;
 mod dispatch;
 mod generate;
+mod graph_reader;
 mod improve;
+mod laws;
+mod matching;
 mod reply;
 mod running;
+mod solve;
+#[cfg(test)]
+mod solved;
+mod solver;
 mod status;
 mod status_line;
 #[cfg(test)]
 mod tests;
 
-pub use command::{Command, NumberCommand, ProblemCommand};
+pub use command::{Command, GraphCommand, GraphObject, NumberCommand, ProblemCommand, TextCommand};
+pub use laws::conversions_are_solvable;
 pub use running::run;
 pub use status::Status;
 pub use status_line::StatusLine;

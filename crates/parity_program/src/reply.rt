@@ -6,6 +6,7 @@ ghost use Rattle.parity_program.specs.Improvements.{improvement_lines, of_step};
 ghost use Rattle.parity_program.specs.Improvements.Improvement.{dependent};
 ghost use Rattle.parity_program.specs.Replies.{verdict_words, verdict_status as status_after, verdict_reply as reply_of, improvement_reply};
 ghost use Rattle.parity_program.specs.Shown.{shown};
+ghost use Rattle.parity_program.specs.declared.status.Status.TheVariants.{Done};
 
 use crate::Status;
 use cert_check::Verdict;
@@ -20,6 +21,18 @@ use text_forms::put_decimal;
 pub struct Reply {
     pub text: Vec<u8>,
     pub status: Status,
+}
+
+impl Reply {
+    /// The whole text, which isn't a negative reply.
+    pub fn done(text: Vec<u8>) -> Reply
+        ensures { shown result ≡ record { text = text.items; status = Done } }
+    {
+        Reply {
+            text,
+            status: Status::Done,
+        }
+    }
 }
 
 /// Puts what is said of the verdict behind.
@@ -87,10 +100,7 @@ pub fn step_reply(alloc: Global, step: Option<LineSet>) -> Result<Reply, AllocEr
 {
     let mut text = Vec::new(alloc);
     put_step(&mut text, step)?;
-    Ok(Reply {
-        text,
-        status: Status::Done,
-    })
+    Ok(Reply::done(text))
 }
 
 /// The lines that tell a relation of the set's vectors.

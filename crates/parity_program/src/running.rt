@@ -8,11 +8,11 @@ ghost use Rattle.parity_program.specs.Outcome.{Outcome, HasReadCause, HasWriteCa
 ghost use Rattle.parity_program.specs.Outcome.{EndsAfterReading, IsAnsweredOrOutOfMemory};
 ghost use Rattle.parity_program.specs.Shown.{shown, RepliesOrRefuses, ReadsWithCause, GivesWithCause, IsWritten};
 ghost use Rattle.parity_program.specs.declared.command.Command.{Command};
-ghost use Rattle.parity_program.specs.declared.command.Command.TheVariants.{OverProblem, OfNumber};
+ghost use Rattle.parity_program.specs.declared.command.Command.TheVariants.{OfText, OfNumber};
 
 use crate::dispatch::{reply_to, reply_to_number};
 use crate::reply::Reply;
-use crate::{Command, NumberCommand, ProblemCommand, Status};
+use crate::{Command, NumberCommand, Status, TextCommand};
 use line_lexer::MOST_BYTES;
 use std::alloc::Global;
 use text_io::{Sink, Source, read_all, write_whole};
@@ -20,10 +20,10 @@ use text_io::{Sink, Source, read_all, write_whole};
 /// The reply of a command to all that the source has left.
 fn reply_to_source<I: Source>(
     alloc: Global,
-    command: ProblemCommand,
+    command: TextCommand,
     input: &mut I,
 ) -> Result<Reply, Status>
-    ensures replies { RepliesOrRefuses (OverProblem command) (I.left input.old) result }
+    ensures replies { RepliesOrRefuses (OfText command) (I.left input.old) result }
     ensures end { OnOk result (IsAtEnd (I.left input.new)) }
     ensures read { ReadsWithCause (I.faults input.old) (I.faults input.new) result }
     ensures long { GivesWithCause (I.given input.old) (I.given input.new) result }
@@ -50,7 +50,7 @@ fn reply_of<I: Source>(alloc: Global, command: Command, input: &mut I) -> Result
     ensures long { GivesWithCause (I.given input.old) (I.given input.new) result }
 {
     match command {
-        Command::OverProblem(command) => reply_to_source(alloc, command, input),
+        Command::OfText(command) => reply_to_source(alloc, command, input),
         Command::OfNumber(command, n) => reply_without_source(alloc, command, n),
     }
 }
@@ -91,7 +91,9 @@ fn run_command<I: Source, O: Sink>(
 /// and `No` the sink has received exactly the reply to the input, after `WriteFault` a proper prefix of it, and
 /// after any other status nothing. To `improve` that is an independent set that one step makes of the set in
 /// the input and that is one line longer, `none` exactly where there is no such set, and where the set is
-/// dependent a relation of its vectors. `generate` reads nothing, and its reply is the text of a number's problem.
+/// dependent a relation of its vectors. To `solve` it is a good answer of the problem in the input, so its set is
+/// largest; to `matching` and `cactus` a largest matching or triangle cactus of the graph in the input; to `convert` the
+/// parity problem by which that is found. `generate` reads nothing, and its reply is the text of a number's problem.
 /// With words that are no command's, nothing is read or written. `complete` says that an accepted input is
 /// answered, faults and want of memory aside.
 pub fn run<I: Source, O: Sink>(

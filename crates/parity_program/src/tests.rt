@@ -15,11 +15,11 @@ const TWO_LINES: &str =
     "parity 1 / field 2 / dimension 4 / lines 2 / line 1 0 0 0 | 0 1 0 0 / line 0 0 1 0 | 0 0 0 1";
 
 /// Three lines through one point.
-const STAR: &str =
+pub const STAR: &str =
     "parity 1 / field 2 / dimension 4 / lines 3 / line 1 0 0 0 | 0 1 0 0 / line 1 0 0 0 | 0 0 1 0 / line 1 0 0 0 | 0 0 0 1";
 
 /// For each of three triangles the lines (x, y), (y, z) and (x + p, z), where p is common.
-const HUB: &str =
+pub const HUB: &str =
     "parity 1 / field 2 / dimension 10 / lines 9 / line 0 1 0 0 0 0 0 0 0 0 | 0 0 1 0 0 0 0 0 0 0 / line 0 0 1 0 0 0 0 0 0 0 | 0 0 0 1 0 0 0 0 0 0 / line 1 1 0 0 0 0 0 0 0 0 | 0 0 0 1 0 0 0 0 0 0 / line 0 0 0 0 1 0 0 0 0 0 | 0 0 0 0 0 1 0 0 0 0 / line 0 0 0 0 0 1 0 0 0 0 | 0 0 0 0 0 0 1 0 0 0 / line 1 0 0 0 1 0 0 0 0 0 | 0 0 0 0 0 0 1 0 0 0 / line 0 0 0 0 0 0 0 1 0 0 | 0 0 0 0 0 0 0 0 1 0 / line 0 0 0 0 0 0 0 0 1 0 | 0 0 0 0 0 0 0 0 0 1 / line 1 0 0 0 0 0 0 1 0 0 | 0 0 0 0 0 0 0 0 0 1";
 
 /// The answer to the two lines.
@@ -186,17 +186,57 @@ choice 1 / size 8 / set 1 3 5 7 9 11 13 15 / end => done => none
 choice 1 / size 8 / set 1 3 5 7 9 10 12 14 / end => no => no dependent / relation 0 0 0 0 0 0 0 0 0 1 1 0 0 0 0 0
 choice 1 / size 7 / set 1 3 5 7 9 11 16 / end => bad text: line 22: range";
 
+/// Problems that aren't solved.
+const UNSOLVED: &str = " => bad text: line 1: missing
+parity 1 / field 4 => bad text: line 2: field
+parity 1 / field 2 / dimension 129 / lines 0 => limit: dimension 129
+parity 1 / field 2 / dimension 0 / lines 0 / line | => bad text: line 5: extra
+parity 1 / field 251 / dimension 2 / lines 1 / line 25 => bad text: line 5: count
+parity 1 / field 251 / dimension 2 / lines 1 / line 250 0 | 0 251 => bad text: line 5: range
+parity 1 / field 2 / dimension 0 / lines 0 / answer 1 => bad text: line 5: extra";
+
+/// Graphs that aren't read.
+const REFUSED_GRAPHS: &str = " => bad text: line 1: missing
+graph 2 => bad text: line 1: version
+parity 1 => bad text: line 1: word
+graph 1 / edge a => bad text: line 2: count
+graph 1 / edges a b => bad text: line 2: word
+graph 1 / edge a b c => bad text: line 2: count
+graph 1 / class a / class b a => bad text: line 3: classed
+graph 1 / vertex abcdefghijklmnopqrstuvwxyzabcdefg => limit: name bytes 33";
+
+/// Graphs, with the problems of their matchings.
+const PROBLEMS_OF_MATCHINGS: &str =
+    "graph 1 => done => # offset 0 / parity 1 / field 2 / dimension 0 / lines 0
+graph 1 / vertex a => done => # offset 0 / parity 1 / field 2 / dimension 1 / lines 0
+graph 1 / edge a b / edge b b => done => # offset 0 / parity 1 / field 2 / dimension 2 / lines 2 / line 1 0 | 0 1 / line 0 1 | 0 1
+graph 1 / edge a b / class c b => done => # offset 0 / parity 1 / field 2 / dimension 3 / lines 1 / line 1 0 0 | 0 1 0";
+
+/// And with those of their triangles.
+const PROBLEMS_OF_TRIANGLES: &str =
+    "graph 1 / edge a b / edge b c => done => # offset 0 / parity 1 / field 2 / dimension 3 / lines 0
+graph 1 / edge a b / edge b c / edge c a => done => # offset 0 / parity 1 / field 2 / dimension 3 / lines 1 / line 1 1 0 | 0 1 1
+graph 1 / edge c d / edge d a / edge a c / edge a b / edge b c => done => # offset 0 / parity 1 / field 2 / dimension 4 / lines 2 / line 1 1 0 0 | 0 1 1 0 / line 1 0 1 0 | 0 0 1 1";
+
 /// How the problem of 7 begins.
 const PROBLEM_OF_SEVEN: &str =
     "parity 1 / field 2 / dimension 60 / lines 150 / line 0 0 0 0 0 1 0 0 1 0 1 0 0 0 0 0 0 0 0 0 0 0 0 0 0 0 0 0 0 0 0 0 0 0 0 0 0 0 0 0 0 0 0 0 0 0 0 0 0 0 0 0 0 0 0 0 0 0 0 0 | 0 1 0 1 1 0 1 1 1 0 0 0 0 0 0 0 0 0 0 0 0 0 0 0 0 0 0 0 0 0 0 0 0 0 0 0 0 0 0 0 0 0 0 0 0 0 0 0 0 0 0 0 0 0 0 0 0 0 0 0";
 
 /// Words that are no command's; ` ` stands between them.
-const OTHER_WORDS: [&str; 13] = [
+const OTHER_WORDS: [&str; 21] = [
     "",
     "check x",
     "improve extra",
-    "solve",
+    "solve matching",
     "checks",
+    "matching 1",
+    "matching cactus",
+    "convert",
+    "convert solve",
+    "convert generate",
+    "convert matching cactus",
+    "cactus convert",
+    "converted matching",
     "generate",
     "generate 007",
     "generate 00",
@@ -220,7 +260,7 @@ fn put_lines(out: &mut Vec<u8>, text: &str) -> Result<(), AllocError> {
 }
 
 /// The lines of one text and then of another.
-fn lines(alloc: Global, text: &str, more: &str) -> Result<Vec<u8>, AllocError> {
+pub fn lines(alloc: Global, text: &str, more: &str) -> Result<Vec<u8>, AllocError> {
     let mut bytes = Vec::new(alloc);
     put_lines(&mut bytes, text)?;
     put_lines(&mut bytes, more)?;
@@ -228,7 +268,7 @@ fn lines(alloc: Global, text: &str, more: &str) -> Result<Vec<u8>, AllocError> {
 }
 
 /// The words of a text.
-fn words(alloc: Global, text: &str) -> Result<Vec<String>, AllocError> {
+pub fn words(alloc: Global, text: &str) -> Result<Vec<String>, AllocError> {
     let mut words = Vec::new(alloc);
     if text.is_empty() {
         return Ok(words);
@@ -240,7 +280,7 @@ fn words(alloc: Global, text: &str) -> Result<Vec<String>, AllocError> {
 }
 
 /// How the command of these words ends on these bytes, and what it writes.
-fn ran(alloc: Global, command: &str, bytes: &[u8]) -> Result<(Status, Vec<u8>), AllocError> {
+pub fn ran(alloc: Global, command: &str, bytes: &[u8]) -> Result<(Status, Vec<u8>), AllocError> {
     let words = words(alloc, command)?;
     let mut input = SteadySource::new(bytes);
     let mut output = MemorySink::new(alloc, 40_000, 1000, &[])?;
@@ -251,7 +291,7 @@ fn ran(alloc: Global, command: &str, bytes: &[u8]) -> Result<(Status, Vec<u8>), 
 }
 
 /// Each row ends as it says, and writes what it says.
-fn assert_rows(
+pub fn assert_rows(
     rt: &impl Abort,
     alloc: Global,
     command: &str,
@@ -335,6 +375,87 @@ fn each_row_ends_as_it_says(rt: HostRuntime) -> Result<(), Fail> {
     assert_rows(&rt, alloc, "improve", &whole, CHOICES_OF_THE_PATH)?;
     let long = path(alloc, "2049")?;
     assert_rows(&rt, alloc, "improve", &long, " => limit: lines 2049")?;
+    Ok(())
+}
+
+#[test]
+fn graphs_are_converted(rt: HostRuntime) -> Result<(), Fail> {
+    let alloc = rt.alloc();
+    assert_rows(&rt, alloc, "solve", &[], UNSOLVED)?;
+    for command in ["matching", "cactus", "convert matching", "convert cactus"] {
+        assert_rows(&rt, alloc, command, &[], REFUSED_GRAPHS)?;
+        let (status, written) = ran(alloc, command, &isolated(alloc)?)?;
+        assert_eq!(rt;
+            status,
+            Status::Limit {
+                what: Counted::Vertices,
+                found: 129
+            }
+        );
+        assert_eq!(rt; written.len(), 0);
+    }
+    assert_rows(&rt, alloc, "convert matching", &[], PROBLEMS_OF_MATCHINGS)?;
+    assert_rows(&rt, alloc, "convert cactus", &[], PROBLEMS_OF_TRIANGLES)?;
+    Ok(())
+}
+
+/// 129 vertices.
+fn isolated(alloc: Global) -> Result<Vec<u8>, AllocError> {
+    let mut out = lines(alloc, "graph 1", "")?;
+    for first in b"abcdefghijklm" {
+        for second in b"abcdefghijklm" {
+            out.extend_from_slice(b"vertex ")?;
+            out.push(*first)?;
+            out.push(*second)?;
+            out.push(b'\n')?;
+        }
+    }
+    Ok(out)
+}
+
+/// The graph of which each two vertices are adjacent.
+fn complete(alloc: Global, names: &[u8]) -> Result<Vec<u8>, AllocError> {
+    let mut out = lines(alloc, "graph 1", "")?;
+    for first in names {
+        for second in names {
+            if first < second {
+                out.extend_from_slice(b"edge ")?;
+                out.push(*first)?;
+                out.push(b' ')?;
+                out.push(*second)?;
+                out.push(b'\n')?;
+            }
+        }
+    }
+    Ok(out)
+}
+
+#[test]
+fn triangles_are_limited(rt: HostRuntime) -> Result<(), Fail> {
+    let alloc = rt.alloc();
+    let most = complete(alloc, b"abcdefghijklmnopqrstuvwx")?;
+    let words = words(alloc, "convert cactus")?;
+    let mut input = SteadySource::new(&most);
+    let mut output = MemorySink::new(alloc, 300_000, 1000, &[])?;
+    assert_eq!(rt; run(alloc, &words, &mut input, &mut output), Status::Done);
+    let begins = lines(
+        alloc,
+        "# offset 0 / parity 1 / field 2 / dimension 24 / lines 2024",
+        "",
+    )?;
+    assert!(rt; output.bytes().starts_with(&begins));
+    let more = complete(alloc, b"abcdefghijklmnopqrstuvwxy")?;
+    for command in ["cactus", "convert cactus"] {
+        let (status, written) = ran(alloc, command, &more)?;
+        assert_eq!(rt;
+            status,
+            Status::Limit {
+                what: Counted::Triangles,
+                found: 2300
+            }
+        );
+        assert_eq!(rt; written.len(), 0);
+    }
     Ok(())
 }
 

@@ -11,3 +11,5 @@ pub mod WrittenWords
 pub mod WrittenLines
 pub mod WrittenTexts
 pub mod RoundTrip
+pub mod WrittenLengths
+pub mod ReadAgain

@@ -11,7 +11,7 @@ use std::process::Abort;
 use std::test::Fail;
 
 /// The family of the set that a text chooses.
-fn one<'a, F: Field>(
+pub fn one<'a, F: Field>(
     rt: &impl Abort,
     alloc: Global,
     problem: &'a Problem<F>,
@@ -22,7 +22,7 @@ fn one<'a, F: Field>(
 }
 
 /// Puts the set that a text chooses last.
-fn add<F: Field>(
+pub fn add<F: Field>(
     rt: &impl Abort,
     family: &mut Family<'_, F>,
     text: &str,

@@ -1,8 +1,11 @@
 //! Worked cases of the crates below: problems, answers and choices as texts, and what each call gives of them.
 //!
-//! There is no code here but tests. What they expect comes from outside: from paper, and never from a run.
+//! There is no code here but tests. What they expect comes from outside, from paper or from
+//! another program, and never from a run.
 #![tactic(auto)]
 
+#[cfg(test)]
+mod augmentations;
 #[cfg(test)]
 mod bases;
 #[cfg(test)]
@@ -11,6 +14,8 @@ mod common_vectors;
 mod fields;
 #[cfg(test)]
 mod overlaps;
+#[cfg(test)]
+mod partitions;
 #[cfg(test)]
 mod places;
 #[cfg(test)]

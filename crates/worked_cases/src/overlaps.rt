@@ -10,6 +10,7 @@ use crate::reading::{assert_text, problem, shown, shown_set};
 use field_core::Field;
 use matching_state::Matched;
 use overlap::{Overlap, at, find, raise};
+use parity_lines::LineSet;
 use small_fields::{F2, F251};
 use std::alloc::{AllocError, Global};
 use std::process::Abort;
@@ -43,7 +44,7 @@ fn found<F: Field>(rt: &impl Abort, state: &Matched<'_, F>) -> Result<String, Al
 }
 
 /// The overlap of the two lines that the search finds.
-fn overlap<'a, F: Field>(
+pub fn overlap<'a, F: Field>(
     rt: &impl Abort,
     state: &Matched<'a, F>,
 ) -> Result<Overlap<'a, F>, AllocError>
@@ -78,17 +79,17 @@ fn assert_missed<F: Field>(
 }
 
 /// The longer set that one which misses the point leads to.
-fn raised<F: Field>(
+pub fn raised<F: Field>(
     rt: &impl Abort,
     overlap: &Overlap<'_, F>,
     state: &Matched<'_, F>,
-) -> Result<String, AllocError>
+) -> Result<LineSet, AllocError>
     requires { state.now.problem ≡ overlap.now.problem }
 {
     assert_missed(rt, overlap, state)?;
     let set = state.set();
     assert!(rt; set.len() == overlap.set().len());
-    shown_set(state.alloc(), &raise(overlap, set)?)
+    raise(overlap, set)
 }
 
 /// Asserts what the overlap of a chosen set is, as the search finds it, and made of its two lines.
@@ -117,7 +118,7 @@ fn raised_at<F: Field>(
     let problem = problem::<F>(rt, alloc, text);
     let state = ready(rt, alloc, &problem, chosen)?;
     let other = ready(rt, alloc, &problem, other)?;
-    raised(rt, &overlap(rt, &state)?, &other)
+    shown_set(alloc, &raised(rt, &overlap(rt, &state)?, &other)?)
 }
 
 #[test]

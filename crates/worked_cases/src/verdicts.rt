@@ -25,7 +25,7 @@ const STAR: &str =
     "dimension 4\nlines 3\nline 1 0 0 0 | 0 1 0 0\nline 1 0 0 0 | 0 0 1 0\nline 1 0 0 0 | 0 0 0 1\n";
 
 /// Asserts what the verdict on an answer is.
-fn assert_verdict<F: Field>(
+pub fn assert_verdict<F: Field>(
     rt: &impl Abort,
     alloc: Global,
     problem: &Problem<F>,
@@ -86,7 +86,7 @@ fn each_verdict_comes(rt: HostRuntime) -> Result<(), Fail> {
 }
 
 /// Three triangles with lines (x, y), (y, z) and (x + p, z), which share the point p: the certificate needs it.
-const HUB: &str = "parity 1\nfield 2\ndimension 10\nlines 9\n\
+pub const HUB: &str = "parity 1\nfield 2\ndimension 10\nlines 9\n\
     line 0 1 0 0 0 0 0 0 0 0 | 0 0 1 0 0 0 0 0 0 0\n\
     line 0 0 1 0 0 0 0 0 0 0 | 0 0 0 1 0 0 0 0 0 0\n\
     line 1 1 0 0 0 0 0 0 0 0 | 0 0 0 1 0 0 0 0 0 0\n\

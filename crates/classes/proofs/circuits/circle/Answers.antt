@@ -1,16 +1,17 @@
-use Rattle.std.proofs.Common.{◌≡◌, ◌<◌, ℕ, List, None, Some, MatchOption, length, refl, sym, ap, ap₂, ◌∙◌, subst}
-use Rattle.linear_algebra.specs.Scalars.{IsField}
+use Rattle.std.proofs.Common.{refl}
 use Rattle.linear_algebra.specs.Vectors.{AreVectors}
 use Rattle.exchanges.proofs.ReachedSets.{exchange_told}
-use Rattle.exchanges.specs.StepsToward.{TellsStep}
-use Rattle.classes.specs.Ends.{TellsEnd}
-use Rattle.classes.specs.Supports.{HaveCommonSupport}
 use Rattle.classes.proofs.CircuitTies.{circuit_exposed, circuit_goes_on, circuit_misses, comes_in, never_settles, overlap_before}
-use Rattle.matching_state.specs.Chosen.{Chosen}
-use Rattle.matching_state.specs.Overlaps.{IsOverlap}
-use Rattle.matching_state.specs.LinePlaces.{IsExposed}
-use Rattle.parity_lines.specs.Problems.{ParityProblem, IsProblem}
+use Rattle.parity_lines.specs.Problems.{IsProblem}
+use Rattle.classes.proofs.circuits.circle.Given.{Over}
 use Rattle.classes.proofs.circuits.circle.Goals as goal
+use Rattle.classes.proofs.circuits.circle.Goals.{After-len-kept}
+
+problem_of : (g : Over) (c : After-len-kept g) → IsProblem g.F.Field.scalars c.args.state.now.problem
+problem_of g c = rw c.problem-problem.ensures at c.len-lines.ensures.problem
+
+vectors_of : (g : Over) (c : After-len-kept g) → AreVectors g.F.Field.scalars c.args.state.now.problem.dimension c.args.keep.now.rows
+vectors_of g c = rw c.requires.width at c.len-kept.ensures.vectors
 
 pub step_toward-requires-clause-missed : goal.step_toward-requires-clause-missed
 step_toward-requires-clause-missed g c =
@@ -18,10 +19,9 @@ step_toward-requires-clause-missed g c =
     let F = g.met.F.Field.lawful in
     let p = c.args.state.now.problem in
     let keep = c.args.keep.now.rows in
-    let P = subst (IsProblem S) c.problem-problem.ensures c.len-lines.ensures.problem in
-    let k = subst (λ d. AreVectors S d keep) c.requires.width c.len-kept.ensures.vectors in
-    circuit_misses S F p P c.args.state.now.set c.set-set.ensures.independent c.args.line c.requires.within c.args.target.now
-    c.requires.target.independent c.requires.target.size keep k (c.requires.circuit F)
+    let s = (goal.at.step_toward-requires-clause-missed g c).After-len-kept in
+    circuit_misses S F p (problem_of g s) c.args.state.now.set c.set-set.ensures.independent c.args.line c.requires.within c.args.target.now
+    c.requires.target.independent c.requires.target.size keep (vectors_of g s) (c.requires.circuit F)
 
 pub unreachable-requires : goal.unreachable-requires
 unreachable-requires g c =
@@ -31,11 +31,9 @@ unreachable-requires g c =
     let M = c.args.state.now.set in
     let T = c.args.target.now in
     let keep = c.args.keep.now.rows in
-    let P = subst (IsProblem S) c.problem-problem.ensures c.len-lines.ensures.problem in
-    let k = subst (λ d. AreVectors S d keep) c.requires.width c.len-kept.ensures.vectors in
-    let told = subst (TellsStep S p keep T M c.step_toward.new.state.set) c.in-Settled.is c.in_ok-larger.ensures.step in
-    never_settles S F p P M c.set-set.ensures.independent c.args.line c.requires.within T c.requires.target.independent c.requires.target.size
-    keep k (c.requires.circuit F) told.1
+    let s = (goal.at.unreachable-requires g c).After-len-kept in
+    never_settles S F p (problem_of g s) M c.set-set.ensures.independent c.args.line c.requires.within T c.requires.target.independent c.requires.target.size
+    keep (vectors_of g s) (c.requires.circuit F) (rw c.in-Settled.is at c.in_ok-larger.ensures.step).1
 
 pub end_before-requires : goal.end_before-requires
 end_before-requires g c =
@@ -49,22 +47,19 @@ end_before-requires g c =
     let into = c.in-Moved.into in
     let keep = c.args.keep.now.rows in
     let i = c.set-set.ensures.independent in
-    let P = subst (IsProblem S) c.problem-problem.ensures c.len-lines.ensures.problem in
-    let k = subst (λ d. AreVectors S d keep) c.requires.width c.len-kept.ensures.vectors in
+    let s = (goal.at.end_before-requires g c).After-len-kept in
     let told = exchange_told S p p keep T M N c.in_ok-larger.field-0 c.in-Moved.out into refl c.in-Moved.is c.in_ok-larger.ensures.step
     c.in_ok-larger.ensures.kept in
-    let chosen : ParityProblem → List ℕ → Chosen = λ q L. record { problem = q; set = L } in
-    let is = sym (c.in_ok-before.ensures ∙ ap₂ chosen c.problem-problem.ensures c.set-set.ensures.value) in
     record {
-      within = subst (λ (s : Chosen). e < length s.problem.lines) is c.requires.within;
-      into_within = subst (λ (s : Chosen). into < length s.problem.lines) is (comes_in S F p P M i e c.requires.within T
-          c.requires.target.independent c.requires.target.size keep k (c.requires.circuit F) N c.in-Moved.out into told.0 told.1);
-      exposed = subst (λ (s : Chosen). IsExposed S s.problem s.set e) is (circuit_exposed S F p P M i e c.requires.within T
-          c.requires.target.independent c.requires.target.size keep k (c.requires.circuit F));
-      into_exposed = subst (λ (s : Chosen). IsExposed S s.problem s.set into) is told.0.can.exposed;
-      overlap = subst (λ (s : Chosen). HaveCommonSupport S s.problem s.set e into → IsOverlap S s.problem s.set e into) is
-          (overlap_before S F p P M i e c.requires.within T c.requires.target.independent c.requires.target.size keep k
-          (c.requires.circuit F) N c.in-Moved.out into told.0 told.1);
+      within = rw (c.in_ok-before.ensures, c.problem-problem.ensures) c.requires.within;
+      into_within = rw (c.in_ok-before.ensures, c.problem-problem.ensures) (comes_in S F p (problem_of g s) M i e c.requires.within T
+          c.requires.target.independent c.requires.target.size keep (vectors_of g s) (c.requires.circuit F) N c.in-Moved.out into told.0 told.1);
+      exposed = rw (c.in_ok-before.ensures, c.problem-problem.ensures, c.set-set.ensures.value) (circuit_exposed S F p (problem_of g s) M i e
+          c.requires.within T c.requires.target.independent c.requires.target.size keep (vectors_of g s) (c.requires.circuit F));
+      into_exposed = rw (c.in_ok-before.ensures, c.problem-problem.ensures, c.set-set.ensures.value) told.0.can.exposed;
+      overlap = rw (c.in_ok-before.ensures, c.problem-problem.ensures, c.set-set.ensures.value) (overlap_before S F p (problem_of g s) M i e
+          c.requires.within T c.requires.target.independent c.requires.target.size keep (vectors_of g s) (c.requires.circuit F) N c.in-Moved.out into
+          told.0 told.1);
     }
 
 pub returns-clause-found : goal.returns-clause-found
@@ -77,15 +72,9 @@ returns-clause-found g c L =
     let e = c.args.line in
     let into = c.in-Moved.into in
     let keep = c.args.keep.now.rows in
-    let P = subst (IsProblem S) c.problem-problem.ensures c.len-lines.ensures.problem in
-    let k = subst (λ d. AreVectors S d keep) c.requires.width c.len-kept.ensures.vectors in
+    let s = (goal.at.returns-clause-found g c).After-len-kept in
     let told = exchange_told S p p keep T M N c.in_ok-larger.field-0 c.in-Moved.out into refl c.in-Moved.is c.in_ok-larger.ensures.step
     c.in_ok-larger.ensures.kept in
-    let chosen : ParityProblem → List ℕ → Chosen = λ q L. record { problem = q; set = L } in
-    let before = c.in_ok-before.before in
-    let is = c.in_ok-before.ensures ∙ ap₂ chosen c.problem-problem.ensures c.set-set.ensures.value in
-    let apart = subst (λ found. MatchOption found (¬ (HaveCommonSupport S before.problem before.set e into))
-    (TellsEnd S before.problem (length before.set))) c.in-None.is c.in_ok-end-in-Moved.ensures in
-    circuit_goes_on S L p P M c.set-set.ensures.independent e c.requires.within T c.requires.target.independent c.requires.target.size keep k
+    circuit_goes_on S L p (problem_of g s) M c.set-set.ensures.independent e c.requires.within T c.requires.target.independent c.requires.target.size keep (vectors_of g s)
     (c.requires.circuit L) N c.in-Moved.out into told.0 told.1
-    (subst (λ (s : Chosen). ¬ (HaveCommonSupport S s.problem s.set e into)) is apart)
+    (rw (c.in_ok-before.ensures, c.problem-problem.ensures, c.set-set.ensures.value, c.in-None.is) at c.in_ok-end-in-Moved.ensures)

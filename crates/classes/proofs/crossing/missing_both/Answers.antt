@@ -1,5 +1,4 @@
-use Rattle.std.proofs.Common.{◌∙◌, length, map, subst}
-use Rattle.classes.specs.Sharing.{TellsShared}
+use Rattle.std.proofs.Common.{map}
 use Rattle.classes.proofs.CrossingTies.{missed_turned}
 use Rattle.classes.proofs.crossing.missing_both.Goals as goal
 use Rattle.field_core.proofs.Values.{vector_of_values}
@@ -12,9 +11,9 @@ returns-in-First-2 g c =
     let o = map number c.args.o.now in
     let u = map number c.args.u.now in
     let vector = vector_of_values S number g.met.F.Field.is_scalar in
-    let told = subst (TellsShared S p (length c.args.other.now) u c.in-Second.target o) c.in-First-2.is c.in_ok-larger-in-Second.ensures in
+    let told = rw c.in-First-2.is at c.in_ok-larger-in-Second.ensures in
     let set = told.0.independent in (
-      record { independent = set; size = told.0.size ∙ c.requires.other.size },
+      record { independent = set; size = rw told.0.size c.requires.other.size },
       missed_turned S g.met.F.Field.lawful p c.len-lines.ensures.problem c.in-First-2.both u o set
           (vector c.args.u.now p.dimension c.requires.u_long) (vector c.args.o.now p.dimension c.requires.o_long) told.1,
     )
@@ -27,10 +26,8 @@ returns g c =
     let o = map number c.args.o.now in
     let b = map number c.args.b.now in
     let in_b = vector_of_values S number g.met.F.Field.is_scalar c.args.b.now p.dimension c.requires.b_long in
-    let first = subst (TellsShared S p (length c.args.set.now) o c.args.apart.now (map number c.args.a.now))
-    c.in-Second.is c.in_ok-larger.ensures in
-    let told = subst (TellsShared S p (length c.args.other.now) (map number c.args.u.now) c.in-Second.target o) c.in-Second-2.is
-    c.in_ok-larger-in-Second.ensures in (
-      record { independent = told.0.independent; size = told.0.size ∙ c.requires.other.size },
+    let first = rw c.in-Second.is at c.in_ok-larger.ensures in
+    let told = rw c.in-Second-2.is at c.in_ok-larger-in-Second.ensures in (
+      record { independent = told.0.independent; size = rw told.0.size c.requires.other.size },
       told.2 b in_b (first.2 b in_b c.requires.both_missed),
     )

@@ -1,4 +1,4 @@
-use Rattle.std.proofs.Common.{◌≡◌, true, not, ap, arith, sym, ◌∙◌}
+use Rattle.std.proofs.Common.{◌≡◌, true, arith}
 use Rattle.std.proofs.lemmas.Bool.{false≢true}
 use Rattle.classes.proofs.Monics.{same_entries}
 use Rattle.classes.proofs.direction.are_same.Goals as goal
@@ -12,5 +12,5 @@ returns-then-ne g c = (
       let y = c.index-w-i.result in
       let is = same_entries f c.args.v.now c.args.w.now c.loop-i.i x y (omega arith) (omega arith) c.index-v-i.is c.index-w-i.is e in
       let same : g.F.PartialEq.eq x y ≡ true = (g.met.F.Field.equals x y).1 is in
-      absurd (false≢true (sym (c.ne.ensures ∙ ap not same) ∙ c.if-ne.true)),
+      absurd (false≢true (rw (c.ne.ensures, same) at c.if-ne.true)),
 )

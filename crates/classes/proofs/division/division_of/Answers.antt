@@ -1,8 +1,4 @@
-use Rattle.std.proofs.Common.{◌≡◌, ◌≤◌, ◌<◌, ◌+◌, ◌++◌, ◌∷◌, [], All, List, ℕ, length, sym, ap, ◌∙◌, subst, arith}
-use Rattle.class_theory.proofs.Classes.{count_in}
-use Rattle.linear_algebra.specs.Ranks.{rank_over}
-use Rattle.parity_lines.specs.Problems.{vectors_at}
-use Rattle.parity_theory.proofs.Parts.{has}
+use Rattle.std.proofs.Common.{◌≡◌, ◌++◌, ◌∷◌, [], length, subst, arith}
 use Rattle.classes.proofs.DivisionLaws.{IsDividedBelow, after_push, class_not_empty, class_within, divided_left, divided_more, divided_none, division_parts, not_label, small_class}
 use Rattle.classes.proofs.division.division_of.Goals as goal
 use Rattle.classes.proofs.division.division_of.Goals.{then-label-line+in_ok-class+in_ok-is_large+else-branch+else-is_err, else-label-line}
@@ -11,7 +7,7 @@ pub loop-line-init : goal.loop-line-init
 loop-line-init g c = divided_none g.F.Field.scalars c.args.problem.now c.args.labels.now c.args.set.now c.new-parts.result c.new-parts.ensures
 
 pub is_large-requires : goal.is_large-requires
-is_large-requires g c = subst (All (λ m. m < length c.args.problem.now.lines)) (sym c.in_ok-class.ensures)
+is_large-requires g c = rw c.in_ok-class.ensures
     (class_within (length c.args.problem.now.lines) c.args.labels.now c.requires.labels.long c.loop-line.line)
 
 pub push-requires : goal.push-requires
@@ -28,12 +24,12 @@ loop-line-preserved g c =
       | then-label-line+in_ok-class+in_ok-is_large+else-branch+else-is_err w ↦
           let is = w.in_ok-class.ensures in
           let pushed : w.push.new.self ≡ c.loop-line.parts ++ w.in_ok-class.class ∷ [] =
-          after_push w.push.result _ w.push.ensures.ok (sym w.is_err.ensures.value ∙ w.if-is_err.false) in
+          after_push w.push.result _ w.push.ensures.ok (rw w.is_err.ensures.value at w.if-is_err.false) in
           let small = small_class _ _ _ w.in_ok-is_large.ensures w.if-branch.false in
           divided_more S p labels M i c.loop-line.parts c.loop-line.invariant c.if-label-line.parts w.if-label-line.true
-          (w.parts-is ∙ pushed ∙ ap (λ (k : List ℕ). c.loop-line.parts ++ k ∷ []) is)
-          (subst (λ (k : List ℕ). rank_over S p.dimension [] (vectors_at p k) ≤ count_in (has k) M + count_in (has k) M + 1) is small)
-      | else-label-line w ↦ subst (λ parts. IsDividedBelow S p labels M (i + 1) parts) (sym w.parts-is)
+          (rw (w.parts-is, pushed, is))
+          (rw is at small)
+      | else-label-line w ↦ rw w.parts-is
           (divided_left S p labels M i c.loop-line.parts c.loop-line.invariant (not_label labels i w.if-label-line.false))
     ]
 

@@ -1,8 +1,4 @@
-use Rattle.std.proofs.Common.{◌≡◌, ◌⊎◌, ℕ, List, subst}
-use Rattle.std.specs.Prelude.{◌↔◌}
-use Rattle.std.specs.List.{Contains}
 use Rattle.std.proofs.lemmas.Result.{IfOk-weaker}
-use Rattle.parity_lines.specs.Problems.{IsProblem}
 use Rattle.classes.proofs.GrowthTies.{larger_by_free}
 use Rattle.classes.proofs.growing.with_free.Goals as goal
 
@@ -13,8 +9,8 @@ returns g c =
     let p = c.args.state.now.problem in
     let M = c.args.state.now.set in
     let e = c.args.line in
-    let P = subst (IsProblem S) c.problem.ensures c.len-lines.ensures.problem in
+    let P = rw c.problem.ensures at c.len-lines.ensures.problem in
     IfOk-weaker c.with.result _ _
     (λ N w. larger_by_free S L p P M c.set.ensures.independent e N c.requires.within (c.requires.free L) w.0
-    (subst (λ (K : List ℕ). (l : ℕ) → Contains N l ↔ (Contains K l ⊎ (l ≡ e))) c.set.ensures.value w.1))
+    (rw c.set.ensures.value at w.1))
     c.with.ensures

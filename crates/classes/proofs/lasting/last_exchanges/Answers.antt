@@ -1,4 +1,4 @@
-use Rattle.std.proofs.Common.{◌≡◌, suc, [], ◌∷◌, map, refl, sym, ap, ◌∙◌, subst, arith}
+use Rattle.std.proofs.Common.{◌≡◌, suc, [], ◌∷◌, map, refl, sym, ◌∙◌, subst, arith}
 use Rattle.std.proofs.lemmas.List.Elements.{All-nil, All-cons}
 use Rattle.linear_algebra.specs.Spans.{InSpan}
 use Rattle.linear_algebra.specs.Vectors.{IsVector}
@@ -7,10 +7,9 @@ use Rattle.classes.specs.declared.pacing.Paced.TheVariants.{Moved, Settled}
 use Rattle.classes.proofs.LastTies.{last_does_not_settle, last_ends, last_goes_on, last_misses}
 use Rattle.classes.proofs.PacedTies.{IsWalk, found_inside, found_outside, pace_told, walk_comes_nearer, walk_goes_on}
 use Rattle.classes.proofs.lasting.last_exchanges.Goals as goal
-use Rattle.field_core.specs.Matrix.{Matrix}
 use Rattle.field_core.proofs.Values.{vector_of_values}
 use Rattle.matching_state.specs.Missing.{Misses}
-use Rattle.parity_lines.specs.Problems.{ParityProblem, IsProblem, vectors_at}
+use Rattle.parity_lines.specs.Problems.{ParityProblem, vectors_at}
 use Rattle.parity_theory.proofs.Nearness.{left_over}
 
 pub loop-keep-init : goal.loop-keep-init
@@ -19,7 +18,7 @@ loop-keep-init g c =
     let F = g.met.F.Field.lawful in
     let p = c.args.state.now.problem in
     let M = c.args.state.now.set in
-    let P = subst (IsProblem S) c.problem-problem.ensures c.len-lines.ensures.problem in
+    let P = rw c.problem-problem.ensures at c.len-lines.ensures.problem in
     let o = map g.F.Field.number c.args.o.now in
     let in_o = vector_of_values S g.F.Field.number g.met.F.Field.is_scalar c.args.o.now p.dimension c.requires.long in
     record {
@@ -39,8 +38,7 @@ loop-keep-init g c =
     }
 
 pub step_in_parts-requires-clause-missed : goal.step_in_parts-requires-clause-missed
-step_in_parts-requires-clause-missed g c = subst (Misses g.F.Field.scalars c.loop-keep.state.problem c.loop-keep.state.set)
-    (sym (ap (λ (m : Matrix). m.rows) c.in_ok-keep.ensures)) c.loop-keep.invariant.walk.missed
+step_in_parts-requires-clause-missed g c = rw c.in_ok-keep.ensures c.loop-keep.invariant.walk.missed
 
 pub unreachable-requires : goal.unreachable-requires
 unreachable-requires g c =

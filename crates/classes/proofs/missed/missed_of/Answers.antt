@@ -1,7 +1,6 @@
-use Rattle.std.proofs.Common.{◌≡◌, List, ℕ, map, sym, ap, ◌∙◌, subst}
+use Rattle.std.proofs.Common.{◌≡◌, map, sym, subst}
 use Rattle.std.proofs.lemmas.Result.{IfOk-weaker}
-use Rattle.linear_algebra.specs.Spans.{InSpan}
-use Rattle.parity_lines.specs.Problems.{ParityProblem, IsProblem, line_at, vectors_at}
+use Rattle.parity_lines.specs.Problems.{line_at, vectors_at}
 use Rattle.classes.proofs.MissedTies.{missed_first, missed_second}
 use Rattle.classes.proofs.PacedTies.{found_inside, found_outside}
 use Rattle.classes.specs.Missed.{IsMissedOf}
@@ -13,9 +12,9 @@ returns-then-is_none g c =
     let p = c.args.state.now.problem in
     let M = c.args.state.now.set in
     let e = c.args.line in
-    let P = subst (IsProblem S) c.problem-problem.ensures c.len-lines.ensures.problem in
+    let P = rw c.problem-problem.ensures at c.len-lines.ensures.problem in
     let v = map g.F.Field.number c.first-first.result.now in
-    let is : v ≡ (line_at p e).0 = c.first-first.ensures.value ∙ ap (λ (q : ParityProblem). (line_at q e).0) c.problem-problem.ensures in
+    let is : v ≡ (line_at p e).0 = rw c.problem-problem.ensures at c.first-first.ensures.value in
     let told = found_outside S p.dimension (vectors_at p M) v c.in_ok-coordinates.field-0 c.if-is_none.ensures c.in_ok-coordinates.ensures in
     IfOk-weaker c.copy_of.result _ _
     (λ row r. subst (IsMissedOf S p M e) (sym r)
@@ -27,11 +26,11 @@ returns-else-is_none g c =
     let p = c.args.state.now.problem in
     let M = c.args.state.now.set in
     let e = c.args.line in
-    let P = subst (IsProblem S) c.problem-problem.ensures c.len-lines.ensures.problem in
+    let P = rw c.problem-problem.ensures at c.len-lines.ensures.problem in
     let u = map g.F.Field.number c.first-first.result.now in
     let v = map g.F.Field.number c.second.result.now in
-    let first : u ≡ (line_at p e).0 = c.first-first.ensures.value ∙ ap (λ (q : ParityProblem). (line_at q e).0) c.problem-problem.ensures in
-    let second : v ≡ (line_at p e).1 = c.second.ensures.value ∙ ap (λ (q : ParityProblem). (line_at q e).1) c.problem-problem.ensures in
+    let first : u ≡ (line_at p e).0 = rw c.problem-problem.ensures at c.first-first.ensures.value in
+    let second : v ≡ (line_at p e).1 = rw c.problem-problem.ensures at c.second.ensures.value in
     let told = found_inside S p.dimension (vectors_at p M) u c.in_ok-coordinates.field-0 c.if-is_none.ensures c.in_ok-coordinates.ensures in
     IfOk-weaker c.copy_of-else-is_none.result _ _
     (λ row r. subst (IsMissedOf S p M e) (sym r)

@@ -1,4 +1,4 @@
-use Rattle.std.proofs.Common.{◌≡◌, sym, ◌∙◌}
+use Rattle.std.proofs.Common.{sym, ◌∙◌}
 use Rattle.classes.proofs.MissedTies.{separator_is_some, separator_told}
 use Rattle.classes.proofs.missed.separator_of.Goals as goal
 

@@ -1,4 +1,4 @@
-use Rattle.std.proofs.Common.{◌≡◌, inl, inr, below_more, get_or, sym, subst, arith}
+use Rattle.std.proofs.Common.{◌≡◌, inl, inr, below_more, get_or, subst, arith}
 use Rattle.classes.proofs.SpreadParts.{zero_told}
 use Rattle.classes.proofs.spreads.first_stray.Goals as goal
 use Rattle.classes.proofs.spreads.first_stray.Goals.{else-labels-line-via-then-labels-line+else-not-is_zero, else-labels-line-via-else-labels-line}
@@ -10,7 +10,7 @@ returns-then-not-is_zero g c =
       record {
         index = c.loop-i.i;
         within = omega arith;
-        line = sym c.at-line.ensures;
+        line = rw c.at-line.ensures;
         not_zero = told.1 c.if-not-is_zero.true;
       },
       c.if-labels-line.true,
@@ -22,7 +22,7 @@ loop-i-preserved g c =
       | else-labels-line-via-then-labels-line+else-not-is_zero w ↦ inr ((zero_told g.F.Field.scalars g.F.Field.number c.args.coordinates.now
           c.loop-i.i w.is_zero.result (omega arith) w.is_zero.ensures).0 w.if-not-is_zero.false)
       | else-labels-line-via-else-labels-line w ↦ inl
-          (subst (λ m. get_or c.args.labels.now m 0 ≡ c.args.label) c.at-line.ensures w.if-labels-line.false)
+          (rw c.at-line.ensures at w.if-labels-line.false)
     ])
 
 pub returns : goal.returns

@@ -1,7 +1,6 @@
-use Rattle.std.proofs.Common.{◌≡◌, ◌≢◌, ◌+◌, ◌*◌, ◌<◌, List, ℕ, get_or, length, map, ap, sym, ◌∙◌, subst, arith}
+use Rattle.std.proofs.Common.{◌+◌, ◌*◌, ◌<◌, List, ℕ, length, map, arith}
 use Rattle.std.proofs.lemmas.List.Elements.{All-get_or}
 use Rattle.field_core.proofs.Values.{vector_of_values}
-use Rattle.linear_algebra.specs.Vectors.{zero_vector}
 use Rattle.classes.proofs.SpreadParts.{IsPartBelow, entry_is, part_all, part_none, part_passed, part_taken}
 use Rattle.classes.proofs.spreads.part_of.Goals as goal
 use Rattle.classes.proofs.spreads.part_of.Goals.{then-labels-line, else-labels-line}
@@ -12,13 +11,11 @@ loop-i-init g c L =
     let p = c.args.problem.now in
     let M = c.args.set.now in
     let cs : List ℕ = map g.F.Field.number c.args.coordinates.now in
-    subst (IsPartBelow S L p c.args.labels.now c.args.label M cs 0) (sym (c.in_ok-part.ensures ∙ ap (λ n. zero_vector S n) c.dimension.ensures))
-    (part_none S L p c.args.labels.now c.args.label M cs)
+    rw (c.in_ok-part.ensures, c.dimension.ensures) (part_none S L p c.args.labels.now c.args.label M cs)
 
 pub add_line-requires-clause-within : goal.add_line-requires-clause-within
 add_line-requires-clause-within g c = let p = c.args.problem.now in
-    subst (λ m. m < length p.lines) (sym c.at-line.ensures)
-    (All-get_or (λ m. m < length p.lines) c.args.set.now c.loop-i.i 0 (omega arith) c.requires.within)
+    rw c.at-line.ensures (All-get_or (λ m. m < length p.lines) c.args.set.now c.loop-i.i 0 (omega arith) c.requires.within)
 
 pub add_line-requires-clause-long : goal.add_line-requires-clause-long
 add_line-requires-clause-long g c = (c.loop-i.invariant g.met.F.Field.lawful).is_vector.length_is
@@ -42,10 +39,10 @@ loop-i-preserved g c L =
           (f w.index-coordinates-i-then-labels-line.result) c.if-labels-line.part c.at-line.ensures
           (entry_is f xs (2 * i) w.index-coordinates-i.result w.index-coordinates-i.is (omega arith))
           (entry_is f xs (2 * i + 1) w.index-coordinates-i-then-labels-line.result w.index-coordinates-i-then-labels-line.is (omega arith))
-          (subst (λ m. get_or labels m 0 ≡ label) c.at-line.ensures w.if-labels-line.true) (w.part-is ∙ w.add_line.ensures)
-      | else-labels-line w ↦ subst (IsPartBelow S L p labels label M cs (i + 1)) (sym w.part-is)
+          (rw c.at-line.ensures at w.if-labels-line.true) (rw w.part-is w.add_line.ensures)
+      | else-labels-line w ↦ rw w.part-is
           (part_passed S L p labels label M cs P c.requires.within v i (omega arith) c.loop-i.part (c.loop-i.invariant L)
-          (subst (λ m. get_or labels m 0 ≢ label) c.at-line.ensures w.if-labels-line.false))
+          (rw c.at-line.ensures at w.if-labels-line.false))
     ]
 
 pub returns : goal.returns

@@ -1,10 +1,8 @@
-use Rattle.std.proofs.Common.{◌≡◌, ◌-◌, [], ◌∷◌, ◌++◌, List, ℕ, MatchOption, length, map, take, ap, sym, ◌*◌, ◌∙◌, subst}
+use Rattle.std.proofs.Common.{◌≡◌, ◌-◌, [], ◌∷◌, ◌++◌, List, ℕ, length, map, take, ◌*◌}
 use Rattle.field_core.proofs.Values.{vector_of_values}
-use Rattle.field_core.specs.Matrix.{Matrix}
-use Rattle.linear_algebra.specs.Spans.{Combines, InSpan}
-use Rattle.linear_algebra.specs.Vectors.{multiple, vector_sum}
+use Rattle.linear_algebra.specs.Spans.{Combines}
 use Rattle.classes.proofs.SpreadTies.{all_but_last, close_by, coordinates_long, last_is, long_but_last, stray_by, wide_by}
-use Rattle.parity_lines.specs.Problems.{IsProblem, vectors_at}
+use Rattle.parity_lines.specs.Problems.{vectors_at}
 use Rattle.classes.proofs.spreads.spread_by.Given.{Over}
 use Rattle.classes.proofs.spreads.spread_by.Goals as goal
 use Rattle.classes.proofs.spreads.spread_by.Goals.{After-as_slice-entries}
@@ -13,13 +11,7 @@ use Rattle.classes.proofs.spreads.spread_by.Goals.{After-as_slice-entries}
 told : (g : Over) (c : After-as_slice-entries g) → Combines g.F.Field.scalars c.args.state.now.problem.dimension
     (vectors_at c.args.state.now.problem c.args.state.now.set ++ map g.F.Field.number c.args.o.now ∷ []) c.in-Some.coefficients
     (map g.F.Field.number c.args.v.now)
-told g c =
-    let S = g.F.Field.scalars in
-    let v : List ℕ = map g.F.Field.number c.args.v.now in
-    let b = c.args.basis.now in
-    subst (λ (b : Matrix). Combines S b.width b.rows c.in-Some.coefficients v) c.requires.basis
-    (subst (λ found. MatchOption found (¬ (InSpan S b.width b.rows v))
-    (λ cs. Combines S b.width b.rows cs v)) c.in-Some.is c.in_ok-coefficients.ensures)
+told g c = rw (c.requires.basis, c.in-Some.is) at c.in_ok-coefficients.ensures
 
 long : (g : Over) (c : After-as_slice-entries g) →
     length (take (length c.as_slice-entries.result.now - 1) c.as_slice-entries.result.now) ≡ 2 * length c.set-set.result.now
@@ -27,10 +19,9 @@ long g c =
     let p = c.args.state.now.problem in
     let M = c.args.state.now.set in
     let f = g.F.Field.number in
-    long_but_last f c.as_slice-entries.result.now M c.in-Some.coefficients
+    rw c.set-set.ensures.value (long_but_last f c.as_slice-entries.result.now M c.in-Some.coefficients
     (coordinates_long g.F.Field.scalars p M (map f c.args.o.now) (map f c.args.v.now) c.in-Some.coefficients
-    (told g c)) c.as_slice-entries.ensures.value
-    ∙ ap (λ L. 2 * length L) (sym c.set-set.ensures.value)
+    (told g c)) c.as_slice-entries.ensures.value)
 
 pub first_stray-requires-clause-long : goal.first_stray-requires-clause-long
 first_stray-requires-clause-long g c = long g (goal.at.first_stray-requires-clause-long g c).After-as_slice-entries
@@ -47,13 +38,11 @@ returns-in_default g c L =
     let M = c.args.state.now.set in
     let o : List ℕ = map f c.args.o.now in
     let v : List ℕ = map f c.args.v.now in
-    let P = subst (IsProblem S) c.problem-problem.ensures c.len-lines.ensures.problem in
+    let P = rw c.problem-problem.ensures at c.len-lines.ensures.problem in
     wide_by S L p P M c.set-set.ensures.independent c.args.labels.now c.args.label o
     (vector_of_values S f g.met.F.Field.is_scalar c.args.o.now p.dimension c.requires.o_long) c.requires.missed v
     (vector_of_values S f g.met.F.Field.is_scalar c.args.v.now p.dimension c.requires.v_long)
-    (subst (λ (b : Matrix). ¬ (InSpan S b.width b.rows v)) c.requires.basis
-    (subst (λ found. MatchOption found (¬ (InSpan S c.args.basis.now.width c.args.basis.now.rows v))
-    (λ cs. Combines S c.args.basis.now.width c.args.basis.now.rows cs v)) c.in_default.is c.in_ok-coefficients.ensures))
+    (rw (c.requires.basis, c.in_default.is) at c.in_ok-coefficients.ensures)
 
 -- with no component at a line of another label it is close
 pub returns-in_default-first_stray : goal.returns-in_default-first_stray
@@ -66,7 +55,7 @@ returns-in_default-first_stray g c L =
     let v : List ℕ = map f c.args.v.now in
     let cs = c.in-Some.coefficients in
     let t = told g (goal.at.returns-in_default-first_stray g c).After-as_slice-entries in
-    let P = subst (IsProblem S) c.problem-problem.ensures c.len-lines.ensures.problem in
+    let P = rw c.problem-problem.ensures at c.len-lines.ensures.problem in
     let q = all_but_last f c.as_slice-entries.result.now M cs (coordinates_long S p M o v cs t) c.as_slice-entries.ensures.value in
     close_by S L p P M c.set-set.ensures.independent c.args.labels.now c.args.label o
     (vector_of_values S f g.met.F.Field.is_scalar c.args.o.now p.dimension c.requires.o_long) c.requires.missed v
@@ -87,7 +76,7 @@ returns g c L H co cv =
     let xs = c.as_slice-entries.result.now in
     let n = f c.neg.result in
     let t = told g (goal.at.returns g c).After-as_slice-entries in
-    let P = subst (IsProblem S) c.problem-problem.ensures c.len-lines.ensures.problem in
+    let P = rw c.problem-problem.ensures at c.len-lines.ensures.problem in
     let long = coordinates_long S p M o v cs t in
     stray_by S L p P M c.set-set.ensures.independent labels c.args.label o
     (vector_of_values S f g.met.F.Field.is_scalar c.args.o.now p.dimension c.requires.o_long) c.requires.missed v
@@ -98,4 +87,4 @@ returns g c L H co cv =
     (last_is f xs M cs long c.as_slice-entries.ensures.value c.index-entries-last.result c.index-entries-last.is)
     (g.met.F.Field.is_scalar c.neg.result)
     c.neg.ensures c.in_ok-part.part c.add_multiple.new.self (c.in_ok-part.ensures L)
-    (c.add_multiple.ensures ∙ ap (λ x. vector_sum S x (multiple S n o)) c.in_ok-vector.ensures) H co cv
+    (rw c.in_ok-vector.ensures at c.add_multiple.ensures) H co cv

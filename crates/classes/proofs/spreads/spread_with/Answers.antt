@@ -1,10 +1,7 @@
-use Rattle.std.proofs.Common.{List, ℕ, get_or, map, below_more, ap, sym, ◌∙◌, subst, arith}
+use Rattle.std.proofs.Common.{List, ℕ, get_or, map, below_more, arith}
 use Rattle.std.proofs.lemmas.List.Elements.{Contains-get_or}
-use Rattle.std.specs.List.{Contains}
-use Rattle.exchanges.proofs.LinesPassed.{each_line}
-use Rattle.classes.specs.Spreads.{IsClose, TellsVector}
+use Rattle.parity_lines.proofs.LinesPassed.{each_line}
 use Rattle.classes.proofs.SpreadTies.{AreClose, first_in, not_all_close, second_in}
-use Rattle.parity_lines.specs.Problems.{IsProblem, line_at}
 use Rattle.classes.proofs.spreads.spread_with.Goals as goal
 
 pub loop-i-preserved : goal.loop-i-preserved
@@ -16,14 +13,9 @@ loop-i-preserved g c L =
     let H = c.args.lines.now in
     let labels = c.args.labels.now in
     let o : List ℕ = map f c.args.o.now in
-    let close : List ℕ → Type 0 = λ v. IsClose S L p labels c.args.label o M v in
     below_more (λ k. AreClose S L p labels c.args.label o M (get_or H k 0)) c.loop-i.i (c.loop-i.invariant L) (
-      subst close (c.first.ensures.value ∙ ap (λ q. (line_at q c.at-line.result).0) c.problem-problem.ensures
-          ∙ ap (λ m. (line_at p m).0) c.at-line.ensures)
-          (subst (TellsVector S L p labels c.args.label o M (map f c.first.result.now)) c.in_default.is (c.in_ok-found.ensures L)),
-      subst close (c.second.ensures.value ∙ ap (λ q. (line_at q c.at-line.result).1) c.problem-problem.ensures
-          ∙ ap (λ m. (line_at p m).1) c.at-line.ensures)
-          (subst (TellsVector S L p labels c.args.label o M (map f c.second.result.now)) c.in_default-2.is (c.in_ok-found-2.ensures L)),
+      rw (c.in_default.is, c.first.ensures.value, c.problem-problem.ensures, c.at-line.ensures) at (c.in_ok-found.ensures L),
+      rw (c.in_default-2.is, c.second.ensures.value, c.problem-problem.ensures, c.at-line.ensures) at (c.in_ok-found-2.ensures L),
     )
 
 pub unreachable-requires : goal.unreachable-requires
@@ -34,7 +26,7 @@ unreachable-requires g c =
     let H = c.args.lines.now in
     let L = g.met.F.Field.lawful in
     let o : List ℕ = map g.F.Field.number c.args.o.now in
-    let P = subst (IsProblem S) c.problem-problem.ensures c.len-lines.ensures.problem in
+    let P = rw c.problem-problem.ensures at c.len-lines.ensures.problem in
     not_all_close S L p P c.args.labels.now c.args.label o M H c.requires.within c.requires.large
     (each_line (λ m. AreClose S L p c.args.labels.now c.args.label o M m) H c.loop-i.i (omega arith) (c.loop-i.invariant L))
 
@@ -44,13 +36,11 @@ returns-in-Some g c L =
     let f = g.F.Field.number in
     let p = c.args.state.now.problem in
     let H = c.args.lines.now in
-    let o : List ℕ = map f c.args.o.now in
     let m = c.at-line.result in
     let v : List ℕ = map f c.first.result.now in
-    subst (TellsVector S L p c.args.labels.now c.args.label o c.args.state.now.set v) c.in-Some.is (c.in_ok-found.ensures L) H
-    (c.requires.o_in L)
-    (first_in S L p H m v (subst (λ l. Contains H l) (sym c.at-line.ensures) (Contains-get_or H c.loop-i.i 0 (omega arith)))
-    (c.first.ensures.value ∙ ap (λ q. (line_at q m).0) c.problem-problem.ensures))
+    (rw c.in-Some.is at (c.in_ok-found.ensures L)) H (c.requires.o_in L)
+    (first_in S L p H m v (rw c.at-line.ensures (Contains-get_or H c.loop-i.i 0 (omega arith)))
+    (rw c.problem-problem.ensures at c.first.ensures.value))
 
 pub returns-in-Some-2 : goal.returns-in-Some-2
 returns-in-Some-2 g c L =
@@ -58,10 +48,8 @@ returns-in-Some-2 g c L =
     let f = g.F.Field.number in
     let p = c.args.state.now.problem in
     let H = c.args.lines.now in
-    let o : List ℕ = map f c.args.o.now in
     let m = c.at-line.result in
     let v : List ℕ = map f c.second.result.now in
-    subst (TellsVector S L p c.args.labels.now c.args.label o c.args.state.now.set v) c.in-Some-2.is (c.in_ok-found-2.ensures L) H
-    (c.requires.o_in L)
-    (second_in S L p H m v (subst (λ l. Contains H l) (sym c.at-line.ensures) (Contains-get_or H c.loop-i.i 0 (omega arith)))
-    (c.second.ensures.value ∙ ap (λ q. (line_at q m).1) c.problem-problem.ensures))
+    (rw c.in-Some-2.is at (c.in_ok-found-2.ensures L)) H (c.requires.o_in L)
+    (second_in S L p H m v (rw c.at-line.ensures (Contains-get_or H c.loop-i.i 0 (omega arith)))
+    (rw c.problem-problem.ensures at c.second.ensures.value))

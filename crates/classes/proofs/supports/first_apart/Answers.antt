@@ -1,6 +1,6 @@
 use Rattle.std.proofs.Common.{◌≡◌, ◌<◌, length, get_or, arith, rules, subst, sym}
 use Rattle.std.proofs.lemmas.List.Elements.{Contains-get_or}
-use Rattle.exchanges.proofs.LinesPassed.{each_line}
+use Rattle.parity_lines.proofs.LinesPassed.{each_line}
 use Rattle.classes.proofs.supports.first_apart.Goals as goal
 
 pub bounds-labels-line : goal.bounds-labels-line

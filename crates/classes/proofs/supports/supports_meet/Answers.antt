@@ -11,6 +11,6 @@ returns g c =
     let Told : ℕ → Option (List ℕ) → Type 0 = λ e found. MatchOption found (¬ (IsExposed S p M e)) (HasSupport S p M e) in
     let a = subst (Told c.args.first) c.in-Some-Some.is-0 c.in_ok-support_of.ensures in
     let b = subst (Told c.args.second) c.in-Some-Some.is-1 c.in_ok-other.ensures in (
-      λ t. (let r = c.have_common_line.ensures.0 t in (r.0, (a.lines r.0).0 r.1, (b.lines r.0).0 r.2)),
-      λ r. c.have_common_line.ensures.1 (r.0, (a.lines r.0).1 r.1, (b.lines r.0).1 r.2),
+      λ t. (let r = c.meets.ensures.0 t in (r.0, (a.lines r.0).0 r.1, (b.lines r.0).0 r.2)),
+      λ r. c.meets.ensures.1 (r.0, (a.lines r.0).1 r.1, (b.lines r.0).1 r.2),
     )

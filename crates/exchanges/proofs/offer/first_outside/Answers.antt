@@ -1,6 +1,6 @@
 use Rattle.std.proofs.Common.{below_more, arith, refl, subst}
 use Rattle.std.specs.List.{Contains}
-use Rattle.exchanges.proofs.LinesPassed.{each_line}
+use Rattle.parity_lines.proofs.LinesPassed.{each_line}
 use Rattle.exchanges.proofs.offer.first_outside.Goals as goal
 
 pub loop-i-preserved : goal.loop-i-preserved

@@ -1,7 +1,7 @@
 use Rattle.std.proofs.Common.{get_or, below_more, arith, subst, sym}
 use Rattle.std.proofs.lemmas.List.Elements.{Contains-get_or}
 use Rattle.std.specs.List.{Contains}
-use Rattle.exchanges.proofs.LinesPassed.{each_line}
+use Rattle.parity_lines.proofs.LinesPassed.{each_line}
 use Rattle.exchanges.proofs.OffersOfLines.{nothing_found}
 use Rattle.exchanges.specs.Offers.{OffersNothing}
 use Rattle.exchanges.proofs.offer.offer_along.Goals as goal

@@ -11,5 +11,5 @@ returns g c =
     let d = length c.args.v.now in
     let v : List ℕ = map f c.args.v.now in
     IfOk-weaker c.basis_of.result _ _
-    (λ basis b. basis_has_span S g.met.F.Field.lawful d v c.new-rows.result c.push.new.self basis
-    (vector_of_values S f g.met.F.Field.is_scalar c.args.v.now d refl) c.new-rows.ensures c.in_ok-push.ensures.ok b) c.basis_of.ensures
+    (λ basis. basis_has_span S g.met.F.Field.lawful d v _ basis
+    (vector_of_values S f g.met.F.Field.is_scalar c.args.v.now d refl) c.in_ok-rows.ensures) c.basis_of.ensures

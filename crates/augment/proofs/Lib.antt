@@ -1,0 +1,11 @@
+pub mod Meetings
+pub mod StepsModulo
+pub mod ProblemsModulo
+pub mod LiftedRows
+pub mod PointComponents
+pub mod PartOrder
+pub mod ShorterSets
+pub mod CommonPoints
+pub mod ClassSteps
+pub mod SetSizes
+pub mod FamiliesModulo

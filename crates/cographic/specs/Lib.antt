@@ -1,0 +1,2 @@
+pub mod CographicRows
+pub mod Cycles

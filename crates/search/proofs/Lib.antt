@@ -1,0 +1,4 @@
+pub mod FirstSets
+pub mod Lengths
+pub mod PartsBelow
+pub mod TakenLines
