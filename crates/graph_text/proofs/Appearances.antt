@@ -1,13 +1,11 @@
 -- The names of a graph text in order of their first appearance, and what one more name changes.
-use Rattle.std.proofs.Common.{◌≡◌, ℕ, zero, suc, ◌+◌, ◌<◌, ◌≤◌, List, [], ◌∷◌, ◌++◌, length, map, filter, not, Bool, true, false, cond, None, Some, Option, refl, sym, ap, ap₂, subst, ◌∙◌, inl, inr, get_or, arith, append_assoc}
-use Rattle.std.specs.Prelude.{◌≢◌, ◌⊎◌, slice_set}
-use Rattle.std.specs.List.{position, position_or_len, list_any}
+use Rattle.std.proofs.Common.{◌≡◌, ℕ, suc, ◌+◌, ◌<◌, List, [], ◌∷◌, ◌++◌, length, filter, not, Bool, true, false, cond, refl, sym, ap, ◌∙◌, inl, inr, get_or, arith}
 use Rattle.std.specs.Str.{bytes_eq}
 use Rattle.std.proofs.lemmas.Bool.{true≢false}
 use Rattle.std.proofs.lemmas.List.{append-nil}
 use Rattle.std.proofs.lemmas.List.Elements.{filter-append}
 use Rattle.vector_spaces.proofs.Distinct.{IsDistinct}
-use Rattle.vector_spaces.proofs.Members.{In, In-append, In-append_left, In-append_right}
+use Rattle.vector_spaces.proofs.Members.{In}
 use Rattle.graph_text.specs.Statements.{first_appearances, is_among, number_in}
 use Rattle.graph_text.proofs.KnownNames.{Names, eq-same, same-eq, other-false, among-In, among-not}
 

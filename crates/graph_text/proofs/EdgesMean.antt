@@ -1,6 +1,5 @@
 -- Which graph the names of two ends give.
-use Rattle.std.proofs.Common.{◌≡◌, ℕ, ◌↔◌, ◌+◌, ◌<◌, ◌≤◌, List, [], ◌∷◌, ◌++◌, length, Bool, true, false, cond, Ok, refl, sym, ap, ap₂, ◌∙◌, subst, inl, append_assoc, arith, ltb, map}
-use Rattle.std.specs.List.{AllByRecursion}
+use Rattle.std.proofs.Common.{◌≡◌, ℕ, ◌↔◌, ◌<◌, ◌≤◌, List, [], ◌∷◌, ◌++◌, length, Bool, true, false, cond, Ok, refl, sym, ap, ap₂, ◌∙◌, subst, inl, append_assoc, arith, ltb}
 use Rattle.std.proofs.lemmas.Bool.{lt-ltb, ltb-true}
 use Rattle.std.proofs.lemmas.List.{length_push, length-map}
 use Rattle.vector_spaces.proofs.Members.{In-append_right}

@@ -1,7 +1,7 @@
 -- What one more name, one more edge and one more name of a class change in the graph of a text.
-use Rattle.std.proofs.Common.{◌≡◌, ℕ, suc, ◌+◌, ◌<◌, ◌≤◌, List, [], ◌∷◌, ◌++◌, length, map, not, Bool, true, false, cond, None, Some, Option, refl, sym, ap, ap₂, subst, ◌∙◌, inl, inr, get_or, arith, eqb, ltb}
+use Rattle.std.proofs.Common.{◌≡◌, ℕ, suc, ◌+◌, ◌≤◌, List, [], ◌∷◌, ◌++◌, length, map, not, Bool, true, false, cond, None, Some, Option, refl, sym, ap, ap₂, subst, ◌∙◌, inl, inr, arith, eqb, ltb}
 use Rattle.std.specs.Prelude.{◌≢◌, ◌||◌, slice_set}
-use Rattle.std.specs.List.{position, position_or_len, list_any, flat_map}
+use Rattle.std.specs.List.{position, position_or_len, flat_map}
 use Rattle.std.specs.Str.{bytes_eq}
 use Rattle.std.proofs.lemmas.Bool.{true≢false, lt-ltb, le-ltb, ltb-true, ltb-false, eq-eqb, ne_eqb}
 use Rattle.std.proofs.lemmas.List.Folds.{position_or_len_push, list_any-append}

@@ -1,5 +1,5 @@
 -- A name among names, and its number.
-use Rattle.std.proofs.Common.{◌≡◌, ℕ, zero, suc, ◌+◌, ◌<◌, ◌≤◌, List, [], ◌∷◌, length, Bool, true, false, cond, Some, Ok, Err, refl, sym, ap, ◌∙◌, inl, inr, slice_get, get_or, arith, ltb, leb, ap₂}
+use Rattle.std.proofs.Common.{◌≡◌, ℕ, zero, suc, ◌+◌, ◌<◌, ◌≤◌, List, [], ◌∷◌, length, Bool, true, false, cond, Some, Ok, Err, refl, sym, ap, ◌∙◌, inl, inr, slice_get, get_or, arith, ltb, ap₂}
 use Rattle.std.specs.Prelude.{◌≢◌, ◌||◌}
 use Rattle.std.specs.List.{AllPairs, Contains}
 use Rattle.std.specs.Str.{bytes_eq}

@@ -1,5 +1,6 @@
 mod Appearances
 mod CausalTexts
+mod ClassNumbers
 mod Each
 mod EachMeans
 mod EdgesMean

@@ -1,11 +1,10 @@
 -- Which graph one line gives: that of what was said before and of its statement.
-use Rattle.std.proofs.Common.{◌≡◌, ℕ, ◌↔◌, ◌+◌, ◌<◌, ◌≤◌, List, [], ◌∷◌, ◌++◌, length, Bool, true, false, cond, Ok, refl, sym, ap, ap₂, ◌∙◌, subst, arith}
+use Rattle.std.proofs.Common.{◌≡◌, ℕ, ◌↔◌, ◌+◌, ◌<◌, List, [], ◌∷◌, ◌++◌, length, Bool, true, false, cond, Ok, refl, sym, ap, ap₂, ◌∙◌, subst, arith}
 use Rattle.std.specs.Prelude.{codes}
 use Rattle.std.specs.Str.{bytes_eq}
 use Rattle.std.proofs.lemmas.List.{length_push, append-nil}
 use Rattle.graph_core.specs.NamedGraphs.{NamedGraph}
 use Rattle.line_lexer.specs.declared.fault.TextFault.TheVariants.{Word}
-use Rattle.text_forms.specs.Places.{Place}
 use Rattle.text_forms.specs.Reading.{Reads, ◌>>=◌, give, fault}
 use Rattle.text_forms.proofs.Taking.{bind_ok, same_given}
 use Rattle.graph_text.specs.Statements.{Statement, vertices, edge, class, statement_words, names_in, edges_in, classes_in, named_graph, HasName}

@@ -1,11 +1,11 @@
 -- Which graph the names on one line give.
-use Rattle.std.proofs.Common.{◌≡◌, ℕ, ◌↔◌, ◌+◌, ◌<◌, ◌≤◌, List, [], ◌∷◌, ◌++◌, length, Bool, true, false, cond, None, Some, Option, Result, Ok, Err, refl, sym, ap, ap₂, ◌∙◌, subst, inl, inr, append_assoc, arith, ltb, leb, map, get_or}
+use Rattle.std.proofs.Common.{◌≡◌, ℕ, ◌↔◌, ◌+◌, ◌<◌, ◌≤◌, List, [], ◌∷◌, ◌++◌, length, Bool, true, false, cond, None, Some, Option, Ok, refl, sym, ap, ap₂, ◌∙◌, subst, inl, inr, append_assoc, arith, ltb, leb, map}
 use Rattle.std.specs.Prelude.{◌≢◌, ◌||◌, slice_index_or, slice_set}
-use Rattle.std.specs.List.{AllByRecursion, flat_map}
+use Rattle.std.specs.List.{AllByRecursion}
 use Rattle.std.proofs.lemmas.Bool.{lt-ltb, ltb-true, leb-true, le-leb}
 use Rattle.std.proofs.lemmas.Grind.{flat_map-append}
-use Rattle.std.proofs.lemmas.List.{length_push, length-append, get_or-map, append-nil}
-use Rattle.vector_spaces.proofs.Distinct.{IsDistinct, distinct_at_most, distinct_append, distinct_left, distinct_apart}
+use Rattle.std.proofs.lemmas.List.{length_push, get_or-map, append-nil}
+use Rattle.vector_spaces.proofs.Distinct.{IsDistinct, distinct_append, distinct_left, distinct_apart}
 use Rattle.vector_spaces.proofs.Members.{In, In-append_left, In-append_right}
 use Rattle.graph_core.specs.NamedGraphs.{NamedGraph}
 use Rattle.line_lexer.specs.declared.refusal.Counted.{Counted}
@@ -15,11 +15,11 @@ use Rattle.text_forms.specs.Reading.{give, above}
 use Rattle.text_forms.proofs.Taking.{bind_ok, same_given}
 use Rattle.graph_text.specs.Statements.{first_appearances, is_among, number_in, named_graph}
 use Rattle.graph_text.specs.Texts.{some, with_name, named, spelled_vertex, vertex, free_vertex, put_in, class_vertex}
-use Rattle.graph_text.proofs.Appearances.{appearing-In, In-appearing, distinct-appearing, appears_first, appears_again, number_stands}
+use Rattle.graph_text.proofs.Appearances.{appearing-In, In-appearing, appears_first, appears_again, number_stands}
 use Rattle.graph_text.proofs.Fits.{Fits, fits-front, fits-name, fits-short}
 use Rattle.graph_text.proofs.GraphGrowth.{AreKnown, members_of, place, class_of, in_no_class, in_a_class, known-more, known-class, one_more_name, one_more_member, class_begins}
 use Rattle.graph_text.proofs.EachMeans.{of_both, TakesOne, some-items}
-use Rattle.graph_text.proofs.KnownNames.{Names, EdgeNames, ClassNames, among-In, In-among, among-not}
+use Rattle.graph_text.proofs.KnownNames.{Names, EdgeNames, ClassNames, among-In, among-not}
 
 -- both tests hold
 tested : {T A : Type 0} (a b : Bool) (x y : A) (what what' : Counted) (found found' at : ℕ) (left rest : List T)

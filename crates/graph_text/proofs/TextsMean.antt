@@ -1,26 +1,26 @@
 -- Which graph a whole text gives: that which its lines spell. And that it is a graph within the limits.
-use Rattle.std.proofs.Common.{◌≡◌, ℕ, zero, suc, ◌↔◌, ◌+◌, ◌<◌, ◌≤◌, List, [], ◌∷◌, ◌++◌, length, All, None, Some, Option, Ok, refl, sym, ap, ap₂, ◌∙◌, subst, inl, inr, append_assoc, arith, map, get_or}
-use Rattle.std.specs.Prelude.{◌≢◌, codes}
+use Rattle.std.proofs.Common.{◌≡◌, ℕ, zero, suc, ◌↔◌, ◌<◌, ◌≤◌, List, [], ◌∷◌, ◌++◌, length, All, None, Some, Option, Ok, refl, sym, ap, ap₂, ◌∙◌, subst, inl, inr, arith, map}
+use Rattle.std.specs.Prelude.{◌≢◌, codes, slice_index_or}
 use Rattle.std.specs.List.{AllByRecursion, AllPairs, flat_map}
 use Rattle.std.proofs.lemmas.Grind.{flat_map-append}
-use Rattle.std.proofs.lemmas.List.{length-append, length-map, append-nil}
+use Rattle.std.proofs.lemmas.List.{length-map, append-nil}
 use Rattle.line_lexer.specs.Lines.{Line, lines, lines_from}
 use Rattle.text_forms.specs.Forms.{Form, line, version, of_text}
 use Rattle.text_forms.specs.Reading.{◌>>=◌, give}
-use Rattle.text_forms.specs.Spelling.{IsNameAndNumeral, IsOneLine}
 use Rattle.text_forms.proofs.LinesTake.{line-ok, Takes-version_line}
 use Rattle.text_forms.proofs.Taking.{chain-ok}
 use Rattle.vector_spaces.proofs.Distinct.{IsDistinct}
-use Rattle.vector_spaces.proofs.Members.{In, In_map-from, In-flat_map, In_flat_map-from, In-append, In-append_left, In-get_or, all-In}
+use Rattle.vector_spaces.proofs.Members.{In, In_map-from, In-flat_map, In_flat_map-from, In-get_or, all-In}
 use Rattle.graph_core.specs.NamedGraphs.{NamedGraph, IsNamedGraph}
 use Rattle.graph_text.specs.Spells.{SpellsGraph}
-use Rattle.graph_text.specs.Statements.{Statement, vertices, edge, class, statement_words, names_in, edges_in, classes_in, names_of, edges_of, classes_of, first_appearances, number_in, named_graph, graph_of, HasName, AreWithin}
-use Rattle.graph_text.specs.Texts.{Begun, each, statement, statements, nothing, graph}
+use Rattle.graph_text.specs.Statements.{Statement, vertices, edge, class, statement_words, names_in, edges_in, classes_in, names_of, edges_of, classes_of, first_appearances, number_in, graph_of, HasName, AreWithin}
+use Rattle.graph_text.specs.Texts.{Begun, statement, statements, nothing, graph}
 use Rattle.graph_text.proofs.Appearances.{appearing-In, In-appearing, distinct-appearing, number_stands}
+use Rattle.graph_text.proofs.ClassNumbers.{classes_below}
 use Rattle.graph_text.proofs.EachMeans.{SayAll, ReadsOne, SaysMore, each-means}
 use Rattle.graph_text.proofs.Fits.{Fits, all-append, fits-front}
 use Rattle.graph_text.proofs.GraphGrowth.{AreKnown, members_of}
-use Rattle.graph_text.proofs.LinesMean.{begun, SaysOne, made-ok, statement-means}
+use Rattle.graph_text.proofs.LinesMean.{begun, made-ok, statement-means}
 use Rattle.graph_text.proofs.KnownNames.{Names, EdgeNames, ClassNames}
 
 fits-of : (most : ℕ) (said : List Statement) → AreWithin most said
@@ -225,3 +225,10 @@ pub read-limits : (most last : ℕ) (text rest : List Line) (g : NamedGraph) →
 read-limits most last text rest g e =
     let w = ((graph-means most last text rest g).0 e).1 in
     subst (IsWithin most) (sym w.graph_is) (graph-limits most w.statements w.within)
+
+pub read-classes : (most last : ℕ) (text rest : List Line) (g : NamedGraph) → graph most last text ≡ Ok (g, rest)
+    → (v c : ℕ) → slice_index_or g.classes v None ≡ Some c → c < length g.names
+read-classes most last text rest g e =
+    let w = ((graph-means most last text rest g).0 e).1 in
+    subst (λ g. (v c : ℕ) → slice_index_or g.classes v None ≡ Some c → c < length g.names) (sym w.graph_is)
+    (classes_below most w.statements (known-of w.statements) w.within)

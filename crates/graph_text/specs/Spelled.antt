@@ -1,10 +1,12 @@
 -- The one spelling of the replies that speak of a graph, as lines of words.
-use Rattle.std.specs.Prelude.{◌≡◌, ℕ, ◌+◌, ◌<◌, List, [], ◌∷◌, ◌++◌, All, length, map, slice_index_or, codes}
+use Rattle.std.specs.Prelude.{◌≡◌, ℕ, ◌+◌, ◌<◌, ◌%◌, List, [], ◌∷◌, ◌++◌, All, length, map, slice_index_or, codes, nat_eq, if◌then◌else◌}
 use Rattle.std.specs.Fmt.{decimal}
+use Rattle.std.specs.List.{zip}
 use Rattle.std.specs.List.Sorted.{IsStrictlyIncreasing}
 use Rattle.graph_core.specs.NamedGraphs.{NamedGraph}
 use Rattle.graph_theory.specs.Cacti.{corners, IsLexicographic}
 use Rattle.graph_theory.specs.Walks.{edge_at}
+use Rattle.rotation_theory.specs.Darts.{edge}
 use Rattle.text_forms.specs.Spelling.{counted_words, end_line}
 
 -- the name of a vertex
@@ -27,6 +29,18 @@ cactus_lines g triangles = counted_words (codes "cactus") 1 ∷ counted_words (c
 
 abbrev pub paths_lines : NamedGraph → List (List ℕ) → List (List (List ℕ))
 paths_lines g paths = counted_words (codes "paths") 1 ∷ counted_words (codes "count") (length paths) ∷ map (listed_words (codes "path") g) paths ++ end_line
+
+-- a dart by the number of its edge from 1, and a sign: + at the first end, - at the second
+abbrev pub dart_word : ℕ → List ℕ
+dart_word d = decimal (edge d + 1) ++ (if nat_eq (d % 2) 0 then codes "+" else codes "-")
+
+-- the name of a vertex, and the darts that leave it
+abbrev pub at_words : List ℕ × List ℕ → List (List ℕ)
+at_words v = codes "at" ∷ v.0 ∷ map dart_word v.1
+
+abbrev pub rotation_lines : NamedGraph → List (List ℕ) → ℕ → ℕ → List (List (List ℕ))
+rotation_lines g lists genus faces = counted_words (codes "rotation") 1 ∷ counted_words (codes "genus") genus
+    ∷ counted_words (codes "faces") faces ∷ map at_words (zip g.names lists) ++ end_line
 
 -- vertices of the graph
 abbrev pub AreVertices : NamedGraph → List ℕ → Type 0

@@ -1,6 +1,6 @@
 //! Laws of graph texts.
 
-ghost use Rattle.std.specs.Prelude.{◌≡◌, ℕ, ◌≤◌, ◌↔◌, List, [], All, length, Ok};
+ghost use Rattle.std.specs.Prelude.{◌≡◌, ℕ, ◌≤◌, ◌<◌, ◌↔◌, List, [], All, length, None, Ok, Some, slice_index_or};
 ghost use Rattle.graph_core.specs.NamedGraphs.{NamedGraph, IsNamedGraph};
 ghost use Rattle.graph_text.specs.Spells.{SpellsGraph};
 ghost use Rattle.graph_text.specs.Texts.{graph};
@@ -16,10 +16,14 @@ pub fn graph_texts_give_what_is_spelled()
         (of_text (graph most) bytes ≡ Ok (g, [])) ↔ SpellsGraph most g (lines_from 1 bytes) }
 {}
 
-/// What is read is a graph within the limits.
+/// What is read is a graph within the limits, and class numbers are below its number of vertices.
 pub fn graphs_are_within_limits()
-    ensures { (most last : ℕ) (text rest : List Line) (g : NamedGraph) → graph most last text ≡ Ok (g, rest)
+    ensures limits { (most last : ℕ) (text rest : List Line) (g : NamedGraph) → graph most last text ≡ Ok (g, rest)
         → IsNamedGraph g × (length g.names ≤ most) × (length g.ends ≤ 512) × All (λ name. length name ≤ 32) g.names }
+
+    // Classes have different vertices, at least one each: so their numbers are below that of the vertices.
+    ensures classes { (most last : ℕ) (text rest : List Line) (g : NamedGraph) → graph most last text ≡ Ok (g, rest)
+        → (v c : ℕ) → slice_index_or g.classes v None ≡ Some c → c < length g.names }
 {}
 
 /// A graph text is refused by its lines up to the refused one alone, or it is `Missing` after the last line.

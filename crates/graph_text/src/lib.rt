@@ -19,4 +19,4 @@ pub use laws::{
     graph_texts_are_causal, graph_texts_give_what_is_spelled, graphs_are_within_limits,
 };
 pub use reading::read_graph;
-pub use writers::{write_cactus, write_matching, write_paths};
+pub use writers::{write_cactus, write_matching, write_paths, write_rotation};

@@ -1,15 +1,18 @@
 //! Writers of the replies that speak of a graph. After want of memory some front of the text stands behind what was there.
 
 ghost use Rattle.std.specs.Prelude.{◌≡◌, ◌<◌, All, length, map};
+ghost use Rattle.std.specs.List.{zip};
 ghost use Rattle.std.specs.List.Sorted.{IsStrictlyIncreasing};
-ghost use Rattle.graph_text.specs.Spelled.{edge_words, listed_words, matching_lines, cactus_lines, paths_lines, AreVertices, AreTriples, AreInOrder};
+ghost use Rattle.graph_text.specs.Spelled.{at_words, edge_words, listed_words};
+ghost use Rattle.graph_text.specs.Spelled.{cactus_lines, matching_lines, paths_lines, rotation_lines, AreVertices, AreTriples, AreInOrder};
 ghost use Rattle.text_forms.specs.Writes.{Writes};
 ghost use Rattle.line_lexer.specs.Words.{spelled};
 
-use crate::writing::{put_edge, put_head, put_listed};
+use crate::writing::{put_darts_at, put_edge, put_head, put_listed};
 use graph_core::{EdgeList, Graph, VertexLists};
+use rotation_system::Rotation;
 use std::alloc::AllocError;
-use text_forms::put;
+use text_forms::{put, put_count};
 
 /// Puts the lines of the edges last.
 fn put_edges(out: &mut Vec<u8>, graph: &Graph, edges: &EdgeList) -> Result<(), AllocError>
@@ -72,5 +75,34 @@ pub fn write_paths(out: &mut Vec<u8>, graph: &Graph, paths: &VertexLists) -> Res
 {
     put_head(out, b"paths", b"count", paths.len())?;
     put_lists(out, b"path", graph, paths)?;
+    put(out, b"end\n")
+}
+
+/// Puts the lines of all vertices last, each with its darts.
+fn put_rotation(out: &mut Vec<u8>, graph: &Graph, rotation: &Rotation) -> Result<(), AllocError>
+    requires { length rotation.now.lists ≡ length graph.now.names }
+    ensures { Writes out.old.items out.new.items (spelled (map at_words (zip graph.now.names rotation.now.lists))) result }
+{
+    for vertex in 0..graph.vertices() {
+        put_darts_at(out, graph.name(vertex), rotation.darts(vertex))?;
+    }
+    Ok(())
+}
+
+/// Writes a rotation of a graph behind what is there, with a genus and a number of faces: by number the vertices, each with the cyclic list
+/// of its darts from the least on.
+pub fn write_rotation(
+    out: &mut Vec<u8>,
+    graph: &Graph,
+    rotation: &Rotation,
+    genus: usize,
+    faces: usize,
+) -> Result<(), AllocError>
+    requires { length rotation.now.lists ≡ length graph.now.names }
+    ensures { Writes out.old.items out.new.items (spelled (rotation_lines graph.now rotation.now.lists genus faces)) result }
+{
+    put_head(out, b"rotation", b"genus", genus)?;
+    put_count(out, b"faces", faces)?;
+    put_rotation(out, graph, rotation)?;
     put(out, b"end\n")
 }

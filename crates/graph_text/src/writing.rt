@@ -2,7 +2,7 @@
 
 ghost use Rattle.std.specs.Prelude.{◌≡◌, ◌<◌, ◌+◌, ◌∷◌, ◌++◌, map, length};
 ghost use Rattle.std.specs.List.{flat_map};
-ghost use Rattle.graph_text.specs.Spelled.{edge_words, listed_words, name_at, AreVertices};
+ghost use Rattle.graph_text.specs.Spelled.{at_words, dart_word, edge_words, listed_words, name_at, AreVertices};
 ghost use Rattle.text_forms.specs.Spelling.{counted_words};
 ghost use Rattle.text_forms.specs.Writes.{Writes};
 ghost use Rattle.line_lexer.specs.Words.{line_text};
@@ -63,5 +63,37 @@ pub fn put_edge(out: &mut Vec<u8>, graph: &Graph, edge: usize) -> Result<(), All
     put_number(out, edge as u128 + 1)?;
     put_name(out, graph, graph.ends(edge).0)?;
     put_name(out, graph, graph.ends(edge).1)?;
+    put(out, b"\n")
+}
+
+/// Puts a space and a dart last: the number of its edge, which counts from 1, and its sign.
+fn put_dart(out: &mut Vec<u8>, dart: u32) -> Result<(), AllocError>
+    ensures { Writes out.old.items out.new.items (32 ∷ dart_word dart) result }
+{
+    put_number(out, (dart / 2) as u128 + 1)?;
+    if dart % 2 == 0 {
+        put(out, b"+")
+    } else {
+        put(out, b"-")
+    }
+}
+
+/// Puts the darts last, each behind a space.
+fn put_darts(out: &mut Vec<u8>, darts: &[u32]) -> Result<(), AllocError>
+    ensures { Writes out.old.items out.new.items (flat_map (λ w. 32 ∷ w) (map dart_word darts.now)) result }
+{
+    for i in 0..darts.len() {
+        put_dart(out, darts[i])?;
+    }
+    Ok(())
+}
+
+/// Puts the line of a vertex last: its name, and the darts that leave it.
+pub fn put_darts_at(out: &mut Vec<u8>, name: &[u8], darts: &[u32]) -> Result<(), AllocError>
+    ensures { Writes out.old.items out.new.items (line_text (at_words (name.now, darts.now))) result }
+{
+    put(out, b"at ")?;
+    put(out, name)?;
+    put_darts(out, darts)?;
     put(out, b"\n")
 }

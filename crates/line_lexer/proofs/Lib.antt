@@ -6,6 +6,7 @@ pub mod Places
 pub mod FirstLine
 pub mod NextWord
 pub mod Spelled
+pub mod Comments
 pub mod WordsOfLines
 pub mod FaultStays
 pub mod SameFront

@@ -18,7 +18,7 @@ abbrev is_text : ℕ → Bool
 is_text b = is_allowed b && not (is_hash b)
 
 -- where the first element stands that passes, after a front in which none does
-front_len : (p : ℕ → Bool) (front : List ℕ) (y : ℕ) (ys : List ℕ) → list_all (λ b. not (p b)) front ≡ true → p y ≡ true → position_or_len p (front ++ y ∷ ys) ≡ length front
+pub front_len : (p : ℕ → Bool) (front : List ℕ) (y : ℕ) (ys : List ℕ) → list_all (λ b. not (p b)) front ≡ true → p y ≡ true → position_or_len p (front ++ y ∷ ys) ≡ length front
 front_len p [] y ys h e = rw e refl
 front_len p (x ∷ xs) y ys h e =
     elim (cases_Bool (p x)) [

@@ -19,7 +19,7 @@ use Rattle.vector_spaces.proofs.Distinct.{IsDistinct, distinct_append, distinct_
 use Rattle.vector_spaces.proofs.Members.{In, In-map, In_map-from, In-flat_map, In_flat_map-from}
 
 -- so many pieces of one length
-length-pieces : {X Y : Type 0} (f : X → List Y) (m : ℕ) (xs : List X)
+pub length-pieces : {X Y : Type 0} (f : X → List Y) (m : ℕ) (xs : List X)
     → ((x : X) → length (f x) ≡ m) → length (flat_map f xs) ≡ length xs * m
 length-pieces f m [] h = omega arith
 length-pieces f m (x ∷ xs) h =
@@ -47,7 +47,7 @@ triples_few n h =
 abbrev is_edge : ℕ → ℕ → ℕ × ℕ → Bool
 is_edge p q e = (nat_eq e.0 p && nat_eq e.1 q) || (nat_eq e.0 q && nat_eq e.1 p)
 
-one_of : (a b : Bool) → (a || b) ≡ true → (a ≡ true) ⊎ (b ≡ true)
+pub one_of : (a b : Bool) → (a || b) ≡ true → (a ≡ true) ⊎ (b ≡ true)
 one_of true b e = inl refl
 one_of false b e = inr e
 
@@ -103,7 +103,7 @@ triangle_true E t h =
 -- ---- all triples
 
 -- pieces of different members of a list have no common member
-distinct_pieces : {X Y : Type 0} (f : X → List Y) (xs : List X) → IsDistinct xs → ((x : X) → IsDistinct (f x))
+pub distinct_pieces : {X Y : Type 0} (f : X → List Y) (xs : List X) → IsDistinct xs → ((x : X) → IsDistinct (f x))
     → ((x y : X) (z : Y) → In z (f x) → In z (f y) → x ≡ y) → IsDistinct (flat_map f xs)
 distinct_pieces f [] d each one = tt
 distinct_pieces f (x ∷ xs) d each one =

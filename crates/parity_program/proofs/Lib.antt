@@ -4,5 +4,12 @@ pub mod Outcomes
 pub mod Written
 pub mod Corners
 pub mod CountedTriangles
+pub mod CountedPairs
+pub mod FirstApart
+pub mod PairProblems
 pub mod OffsetLine
+pub mod GraphsFor
+pub mod PathsInGraphs
 pub mod Conversions
+pub mod GeneratedTexts
+pub mod SampleLines

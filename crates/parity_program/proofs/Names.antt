@@ -8,9 +8,9 @@ use Rattle.parity_program.specs.declared.command.Command.TheVariants.{OfText, Of
 use Rattle.parity_program.specs.declared.command.GraphCommand.{GraphCommand}
 use Rattle.parity_program.specs.declared.command.GraphCommand.TheVariants.{Find, Convert}
 use Rattle.parity_program.specs.declared.command.GraphObject.{GraphObject}
-use Rattle.parity_program.specs.declared.command.GraphObject.TheVariants.{Matching, Cactus}
+use Rattle.parity_program.specs.declared.command.GraphObject.TheVariants.{Matching, Cactus, PathFamily, Rotation}
 use Rattle.parity_program.specs.declared.command.NumberCommand.{NumberCommand}
-use Rattle.parity_program.specs.declared.command.NumberCommand.TheVariants.{Generate}
+use Rattle.parity_program.specs.declared.command.NumberCommand.TheVariants.{Generate, Sample}
 use Rattle.parity_program.specs.declared.command.ProblemCommand.{ProblemCommand}
 use Rattle.parity_program.specs.declared.command.ProblemCommand.TheVariants.{Check, Improve, Solve}
 use Rattle.parity_program.specs.declared.command.TextCommand.{TextCommand}
@@ -37,6 +37,18 @@ same_object Matching Matching e = refl
 same_object Matching Cactus e = absurd (cc (e))
 same_object Cactus Matching e = absurd (cc (e))
 same_object Cactus Cactus e = refl
+same_object Matching PathFamily e = absurd (cc (e))
+same_object Cactus PathFamily e = let letters : 99 ≡ 115 = ap first_letter e in absurd (omega (arith, letters))
+same_object PathFamily Matching e = absurd (cc (e))
+same_object PathFamily Cactus e = let letters : 115 ≡ 99 = ap first_letter e in absurd (omega (arith, letters))
+same_object PathFamily PathFamily e = refl
+same_object Matching Rotation e = absurd (cc (e))
+same_object Cactus Rotation e = absurd (cc (e))
+same_object PathFamily Rotation e = absurd (cc (e))
+same_object Rotation Matching e = absurd (cc (e))
+same_object Rotation Cactus e = absurd (cc (e))
+same_object Rotation PathFamily e = absurd (cc (e))
+same_object Rotation Rotation e = refl
 
 -- no word of a problem's command is that of an object
 pub other_word : (c : ProblemCommand) (o : GraphObject) → problem_word c ≡ object_word o → ⊥
@@ -46,6 +58,12 @@ other_word Improve Matching e = absurd (cc (e))
 other_word Improve Cactus e = absurd (cc (e))
 other_word Solve Matching e = absurd (cc (e))
 other_word Solve Cactus e = absurd (cc (e))
+other_word Check PathFamily e = absurd (cc (e))
+other_word Improve PathFamily e = absurd (cc (e))
+other_word Solve PathFamily e = absurd (cc (e))
+other_word Check Rotation e = let letters : 99 ≡ 103 = ap first_letter e in absurd (omega (arith, letters))
+other_word Improve Rotation e = absurd (cc (e))
+other_word Solve Rotation e = let letters : 115 ≡ 103 = ap first_letter e in absurd (omega (arith, letters))
 
 same_graph_command : (c d : GraphCommand) → graph_words c ≡ graph_words d → c ≡ d
 same_graph_command (Find o) (Find p) e = ap Find (same_object o p (cc (e)))
@@ -65,6 +83,9 @@ same_text_command (OverGraph c) (OverGraph d) e = ap OverGraph (same_graph_comma
 
 pub same_number_command : (c d : NumberCommand) → number_word c ≡ number_word d → c ≡ d
 same_number_command Generate Generate e = refl
+same_number_command Generate Sample e = absurd (cc (e))
+same_number_command Sample Generate e = absurd (cc (e))
+same_number_command Sample Sample e = refl
 
 same_number : (m n : ℕ) → m < 2 ^ 32 → n < 2 ^ 32 → decimal m ≡ decimal n → m ≡ n
 same_number m n h k e = decimal_injective m n (omega (arith, h)) (omega (arith, k)) e
@@ -74,6 +95,7 @@ pub not_of_number : (c : TextCommand) (d : NumberCommand) (n : ℕ) → text_wor
 not_of_number (OverProblem c) d n e = absurd (cc (e))
 not_of_number (OverGraph (Find o)) d n e = absurd (cc (e))
 not_of_number (OverGraph (Convert o)) Generate n e = absurd (cc (e))
+not_of_number (OverGraph (Convert o)) Sample n e = absurd (cc (e))
 
 same_command : (c d : Command) → words_for c ≡ words_for d → HasSmallNumber c → HasSmallNumber d → c ≡ d
 same_command (OfText c) (OfText d) e h k = ap OfText (same_text_command c d e)

@@ -11,7 +11,7 @@ use Rattle.parity_program.specs.Improvements.{Improvement, improvement_status}
 use Rattle.parity_program.specs.Improvements.Improvement.{larger, none, dependent}
 use Rattle.parity_program.specs.Inputs.{Input, input_of, reading, told_to}
 use Rattle.line_lexer.specs.Seen.{most_bytes}
-use Rattle.parity_program.specs.Inputs.Input.{answered, chosen, posed, of_graph, generated}
+use Rattle.parity_program.specs.Inputs.Input.{answered, chosen, posed, of_graph, generated, sampled}
 use Rattle.parity_program.specs.Outcome.{OfTold, RepliesToBytes, Replies, Refuses, Outcome, HasReadCause, HasWriteCause, HasByteCause}
 use Rattle.parity_program.specs.Outcome.{NoFault, NoReadFault, IsAnsweredOrOutOfMemory, EndsAfterReading}
 use Rattle.parity_program.specs.Replies.{ReplyText, IsReply, verdict_status}
@@ -19,7 +19,7 @@ use Rattle.parity_program.specs.Shown.{RepliesTo, RepliesOrRefuses, IsNoByteLimi
 use Rattle.parity_program.specs.declared.command.Command.{Command}
 use Rattle.parity_program.specs.declared.command.Command.TheVariants.{OfText}
 use Rattle.parity_program.specs.declared.command.GraphCommand.TheVariants.{Find, Convert}
-use Rattle.parity_program.specs.declared.command.GraphObject.TheVariants.{Matching, Cactus}
+use Rattle.parity_program.specs.declared.command.GraphObject.TheVariants.{Matching, Cactus, PathFamily, Rotation}
 use Rattle.parity_program.specs.declared.command.TextCommand.{TextCommand}
 use Rattle.parity_program.specs.declared.reply.Reply.{Reply}
 use Rattle.parity_program.specs.declared.status.Status.{Status}
@@ -148,7 +148,7 @@ refused_end command left Done h = absurd h
 refused_end command left No h = absurd h
 refused_end command left WriteFault h = absurd h
 refused_end command left Usage h = absurd h
-refused_end command left (NotConnected vertex) h = absurd h
+refused_end command left (NotConnected vertex) h = tt
 
 pub refused_write : (count : ℕ) (status : Status) → IsRefusal status → HasWriteCause count count status
 refused_write count (BadText line kind) h = refl
@@ -159,7 +159,7 @@ refused_write count Done h = absurd h
 refused_write count No h = absurd h
 refused_write count WriteFault h = absurd h
 refused_write count Usage h = absurd h
-refused_write count (NotConnected vertex) h = absurd h
+refused_write count (NotConnected vertex) h = refl
 
 -- ---- a reply that is written
 
@@ -180,11 +180,14 @@ ends (chosen q p M) reply h = improvement h.0 (ap (λ r. r.status) h.2)
     improvement (larger N) e = inl e
     improvement none e = inl e
     improvement (dependent cs) e = inr e
-ends (posed q p) reply h = inl (ap (λ r. r.status) h.3)
+ends (posed q p) reply h = inl (ap (λ r. r.status) h.4)
 ends (of_graph (Find Matching) g) reply h = inl (ap (λ r. r.status) h.2)
 ends (of_graph (Find Cactus) g) reply h = inl (ap (λ r. r.status) h.3)
-ends (of_graph (Convert object) g) reply h = inl (ap (λ r. r.status) h.2)
+ends (of_graph (Find PathFamily) g) reply h = inl (ap (λ r. r.status) h.3)
+ends (of_graph (Find Rotation) g) reply h = inl (ap (λ r. r.status) h.4)
+ends (of_graph (Convert object) g) reply h = inl (ap (λ r. r.status) h.4)
 ends (generated n) reply h = inl (ap (λ r. r.status) h.2)
+ends (sampled n) reply h = inl (ap (λ r. r.status) h.4)
 
 replies_end : (command : Command) (known : Option (List ℕ)) (reply : ReplyText) → OfTold (RepliesToBytes command reply) known
     → (reply.status ≡ Done) ⊎ (reply.status ≡ No)

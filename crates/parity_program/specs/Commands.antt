@@ -6,9 +6,9 @@ use Rattle.parity_program.specs.declared.command.Command.TheVariants.{OfText, Of
 use Rattle.parity_program.specs.declared.command.GraphCommand.{GraphCommand}
 use Rattle.parity_program.specs.declared.command.GraphCommand.TheVariants.{Find, Convert}
 use Rattle.parity_program.specs.declared.command.GraphObject.{GraphObject}
-use Rattle.parity_program.specs.declared.command.GraphObject.TheVariants.{Matching, Cactus}
+use Rattle.parity_program.specs.declared.command.GraphObject.TheVariants.{Matching, Cactus, PathFamily, Rotation}
 use Rattle.parity_program.specs.declared.command.NumberCommand.{NumberCommand}
-use Rattle.parity_program.specs.declared.command.NumberCommand.TheVariants.{Generate}
+use Rattle.parity_program.specs.declared.command.NumberCommand.TheVariants.{Generate, Sample}
 use Rattle.parity_program.specs.declared.command.ProblemCommand.{ProblemCommand}
 use Rattle.parity_program.specs.declared.command.ProblemCommand.TheVariants.{Check, Improve, Solve}
 use Rattle.parity_program.specs.declared.command.TextCommand.{TextCommand}
@@ -28,6 +28,8 @@ problem_word Solve = codes "solve"
 abbrev pub object_word : GraphObject → List ℕ
 object_word Matching = codes "matching"
 object_word Cactus = codes "cactus"
+object_word PathFamily = codes "spaths"
+object_word Rotation = codes "genus"
 
 -- the words of a command over a graph: the object's word, or `convert` before it
 abbrev pub graph_words : GraphCommand → List (List ℕ)
@@ -42,6 +44,7 @@ text_words (OverGraph command) = graph_words command
 -- the word of a command of a number
 abbrev pub number_word : NumberCommand → List ℕ
 number_word Generate = codes "generate"
+number_word Sample = codes "sample"
 
 -- the words of a command; a number is a plain decimal
 abbrev pub words_for : Command → List (List ℕ)

@@ -1,42 +1,46 @@
 -- What the bytes mean that a command is told: an input, or the status that refuses them.
-use Rattle.std.specs.Prelude.{ℕ, ◌+◌, List, [], length, nat_lt, if◌then◌else◌, Option, Some, Result, Ok, Err}
+use Rattle.std.specs.Prelude.{ℕ, ◌+◌, List, [], length, nat_lt, if◌then◌else◌, Option, None, Some, Result, Ok, Err}
 use Rattle.graph_core.specs.NamedGraphs.{NamedGraph}
 use Rattle.graph_text.specs.Texts.{graph}
 use Rattle.line_lexer.specs.Lines.{Line}
 use Rattle.line_lexer.specs.Seen.{most_bytes}
-use Rattle.line_lexer.specs.declared.refusal.Counted.TheVariants.{Bytes, Triangles}
+use Rattle.line_lexer.specs.declared.refusal.Counted.TheVariants.{Bytes, Triangles, Pairs, CycleRank}
 use Rattle.line_lexer.specs.declared.refusal.TextRefusal.{TextRefusal}
 use Rattle.line_lexer.specs.declared.refusal.TextRefusal.TheVariants as refusal
 use Rattle.parity_lines.specs.Problems.{ParityProblem}
+use Rattle.parity_program.specs.AdjacentPairs.{cycle_rank, pair_count}
 use Rattle.parity_program.specs.Commands.{reads_source}
+use Rattle.parity_program.specs.Connectedness.{first_apart}
 use Rattle.parity_program.specs.Triangles.{triangle_count}
 use Rattle.parity_program.specs.declared.command.Command.{Command}
 use Rattle.parity_program.specs.declared.command.Command.TheVariants.{OfText, OfNumber}
 use Rattle.parity_program.specs.declared.command.GraphCommand.{GraphCommand}
 use Rattle.parity_program.specs.declared.command.GraphCommand.TheVariants.{Find, Convert}
 use Rattle.parity_program.specs.declared.command.GraphObject.{GraphObject}
-use Rattle.parity_program.specs.declared.command.GraphObject.TheVariants.{Matching, Cactus}
+use Rattle.parity_program.specs.declared.command.GraphObject.TheVariants.{Matching, Cactus, PathFamily, Rotation}
 use Rattle.parity_program.specs.declared.command.NumberCommand.{NumberCommand}
-use Rattle.parity_program.specs.declared.command.NumberCommand.TheVariants.{Generate}
+use Rattle.parity_program.specs.declared.command.NumberCommand.TheVariants.{Generate, Sample}
 use Rattle.parity_program.specs.declared.command.ProblemCommand.{ProblemCommand}
 use Rattle.parity_program.specs.declared.command.ProblemCommand.TheVariants.{Check, Improve, Solve}
 use Rattle.parity_program.specs.declared.command.TextCommand.{TextCommand}
 use Rattle.parity_program.specs.declared.command.TextCommand.TheVariants.{OverProblem, OverGraph}
 use Rattle.parity_program.specs.declared.status.Status.{Status}
-use Rattle.parity_program.specs.declared.status.Status.TheVariants.{BadText, Limit, OutOfMemory}
+use Rattle.parity_program.specs.declared.status.Status.TheVariants.{BadText, Limit, NotConnected, OutOfMemory}
 use Rattle.parity_text.specs.Files.{problem_with}
 use Rattle.parity_text.specs.Texts.{answer, choice}
 use Rattle.parity_text.specs.Values.{AnswerValue}
 use Rattle.text_forms.specs.Forms.{Form, of_text}
 use Rattle.text_forms.specs.Reading.{Reads, ◌>>=◌, give, above}
 
--- the order of a field, a problem over it, and an answer, a set of lines or nothing more; a graph; or the number of a problem
+-- the order of a field, a problem over it, and an answer, a set of lines or nothing more; a graph; or the number of a problem,
+-- which is to be written or of which the size is asked
 pub data Input : Type 0 where
   answered : ℕ → ParityProblem → AnswerValue → Input
   chosen : ℕ → ParityProblem → List ℕ → Input
   posed : ℕ → ParityProblem → Input
   of_graph : GraphCommand → NamedGraph → Input
   generated : ℕ → Input
+  sampled : ℕ → Input
 
 -- what a command over a problem reads behind it
 abbrev pub behind : ProblemCommand → ℕ → ParityProblem → Form Input
@@ -48,12 +52,22 @@ behind Improve q p = do
   give (chosen q p set)
 behind Solve q p = give (posed q p)
 
--- how many vertices and triangles a graph may have
-abbrev pub most_vertices : ℕ
-most_vertices = 128
+-- how many vertices a graph may have in which the object is looked for, how many triangles, how many pairs of edges with a common end,
+-- and which cycle rank
+abbrev pub most_vertices : GraphObject → ℕ
+most_vertices Matching = 128
+most_vertices Cactus = 128
+most_vertices PathFamily = 64
+most_vertices Rotation = 128
 
 abbrev pub most_triangles : ℕ
 most_triangles = 2048
+
+abbrev pub most_pairs : ℕ
+most_pairs = 2048
+
+abbrev pub most_cycle_rank : ℕ
+most_cycle_rank = 128
 
 -- the graph, if it has no more triangles than it may
 abbrev pub with_few_triangles : {T : Type 0} → NamedGraph → Reads T NamedGraph
@@ -61,12 +75,32 @@ with_few_triangles g =
     let count : ℕ = triangle_count (length g.names) g.ends in
     if nat_lt most_triangles count then above Triangles count else give g
 
+-- the graph, if it has no more pairs of edges with a common end than it may
+abbrev pub with_few_pairs : {T : Type 0} → NamedGraph → Reads T NamedGraph
+with_few_pairs g = if nat_lt most_pairs (pair_count g.ends) then above Pairs (pair_count g.ends) else give g
+
+-- the graph, if it has no greater cycle rank than it may
+abbrev pub with_small_rank : {T : Type 0} → NamedGraph → Reads T NamedGraph
+with_small_rank g =
+    let rank : ℕ = cycle_rank (length g.names) g.ends in
+    if nat_lt most_cycle_rank rank then above CycleRank rank else give g
+
+-- both
+abbrev pub with_few_cycles : {T : Type 0} → NamedGraph → Reads T NamedGraph
+with_few_cycles g = do
+  h ← with_few_pairs g
+  with_small_rank h
+
 -- a graph in which the object is looked for, within the limits
 abbrev pub graph_for : GraphObject → Form NamedGraph
-graph_for Matching = graph most_vertices
+graph_for Matching = graph (most_vertices Matching)
 graph_for Cactus = do
-  g ← graph most_vertices
+  g ← graph (most_vertices Cactus)
   with_few_triangles g
+graph_for PathFamily = graph (most_vertices PathFamily)
+graph_for Rotation = do
+  g ← graph (most_vertices Rotation)
+  with_few_cycles g
 
 -- what a command over a graph is about
 abbrev pub object_of : GraphCommand → GraphObject
@@ -76,6 +110,7 @@ object_of (Convert object) = object
 -- what a command of a number is about
 abbrev pub numbered : NumberCommand → ℕ → Input
 numbered Generate n = generated n
+numbered Sample n = sampled n
 
 -- the form of what a command reads
 abbrev pub text_form : TextCommand → Form Input
@@ -98,9 +133,30 @@ status_of (refusal.Bad line kind) = BadText line kind
 status_of (refusal.Limit what found) = Limit what found
 status_of refusal.OutOfMemory = OutOfMemory
 
--- the value that a form gives, or the status of its refusal
-abbrev pub accepted : {A : Type 0} → Result (A × List Line) TextRefusal → Result A Status
-accepted (Ok x) = Ok x.0
+-- the input, but for a vertex that isn't connected with the first: vertices count from 1 in a status
+abbrev pub unless_apart : Option ℕ → Input → Result Input Status
+unless_apart None x = Ok x
+unless_apart (Some v) x = Err (NotConnected (v + 1))
+
+-- a rotation is looked for in connected graphs alone
+abbrev pub in_connected : GraphObject → NamedGraph → Input → Result Input Status
+in_connected Matching g x = Ok x
+in_connected Cactus g x = Ok x
+in_connected PathFamily g x = Ok x
+in_connected Rotation g x = unless_apart (first_apart (length g.names) g.ends) x
+
+-- what was read, if its graph is connected where it must be
+abbrev pub admitted : Input → Result Input Status
+admitted (answered q p a) = Ok (answered q p a)
+admitted (chosen q p set) = Ok (chosen q p set)
+admitted (posed q p) = Ok (posed q p)
+admitted (of_graph command g) = in_connected (object_of command) g (of_graph command g)
+admitted (generated n) = Ok (generated n)
+admitted (sampled n) = Ok (sampled n)
+
+-- the input that a form gives, or the status of its refusal
+abbrev pub accepted : Result (Input × List Line) TextRefusal → Result Input Status
+accepted (Ok x) = admitted x.0
 accepted (Err e) = Err (status_of e)
 
 -- what the lines of the bytes mean to a command

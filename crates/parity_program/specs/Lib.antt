@@ -1,6 +1,8 @@
 pub mod StatusLines
 pub mod Commands
 pub mod Triangles
+pub mod AdjacentPairs
+pub mod Connectedness
 pub mod Inputs
 pub mod Improvements
 pub mod Replies

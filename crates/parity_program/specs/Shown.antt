@@ -1,6 +1,10 @@
 -- Words of the contracts of private functions alone: how replies of the code are seen, and what they say of what is read.
-use Rattle.std.specs.Prelude.{◌≡◌, ◌≢◌, ℕ, ◌+◌, ◌≤◌, ◌⊎◌, List, length, Option, Result, Ok, Err}
+use Rattle.std.specs.Prelude.{◌≡◌, ◌≢◌, ℕ, ◌+◌, ◌^◌, ◌<◌, ◌≤◌, ◌⊎◌, List, length, Option, None, Some, Result, Ok, Err, slice_index_or}
 use Rattle.std.specs.Io.KnownBytes.{Appends}
+use Rattle.edge_lists.specs.Connections.{IsConnected}
+use Rattle.edge_lists.specs.EdgeNumbers.{edge_numbers}
+use Rattle.graph_core.specs.NamedGraphs.{NamedGraph}
+use Rattle.graph_theory.specs.Walks.{edge_at}
 use Rattle.line_lexer.specs.Lines.{lines}
 use Rattle.line_lexer.specs.Seen.{Seen, most_bytes}
 use Rattle.line_lexer.specs.declared.refusal.Counted.TheVariants.{Bytes}
@@ -8,6 +12,8 @@ use Rattle.parity_program.specs.Inputs.{Input, accepted}
 use Rattle.parity_program.specs.Outcome.{Replies, Refuses, HasReadCause, HasByteCause}
 use Rattle.parity_program.specs.Replies.{ReplyText, IsReply}
 use Rattle.parity_program.specs.declared.command.Command.{Command}
+use Rattle.parity_program.specs.declared.command.GraphObject.{GraphObject}
+use Rattle.parity_program.specs.declared.command.GraphObject.TheVariants.{Matching, Cactus, PathFamily, Rotation}
 use Rattle.parity_program.specs.declared.reply.Reply.{Reply}
 use Rattle.parity_program.specs.declared.status.Status.{Status}
 use Rattle.parity_program.specs.declared.status.Status.TheVariants.{Limit, ReadFault, WriteFault, OutOfMemory}
@@ -60,3 +66,24 @@ abbrev pub IsWritten : Option (List ℕ) → Option (List ℕ) → ℕ → ℕ �
 IsWritten old new before now reply status =
     ((status ≡ reply.status) × Appends old new reply.text × (now ≡ before))
     ⊎ ((status ≡ WriteFault) × AppendsProperPrefix old new reply.text × Rose before now)
+
+-- class numbers are numbers of elements of the field with 251
+abbrev pub HasFewClasses : NamedGraph → Type 0
+HasFewClasses g = (v c : ℕ) → slice_index_or g.classes v None ≡ Some c → c < 251
+
+-- the edges connect all vertices, and are fewer than darts can be numbered
+pub record IsConnectedGraph (g : NamedGraph) : Type 0 where
+  pub connected : IsConnected (edge_at g.ends) (length g.names) (edge_numbers g.ends)
+  pub few : length g.ends < 2 ^ 31
+
+-- what a graph has in which the object is looked for
+abbrev pub Suits : GraphObject → NamedGraph → Type 0
+Suits Matching g = Unit {0}
+Suits Cactus g = Unit {0}
+Suits PathFamily g = HasFewClasses g
+Suits Rotation g = IsConnectedGraph g
+
+-- a check lets an input pass, or refuses it with the status, unless memory ran out
+abbrev pub Admits : {Y : Type 0} → (Input → Result Input Status) → Result Y Status → Type 0
+Admits check (Ok y) = (x : Input) → check x ≡ Ok x
+Admits check (Err status) = (status ≡ OutOfMemory) ⊎ ((x : Input) → check x ≡ Err status)

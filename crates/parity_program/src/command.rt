@@ -54,6 +54,10 @@ pub enum GraphObject {
     Matching,
     /// Triangles of which none make a cycle.
     Cactus,
+    /// Disjoint paths between terminals of different classes.
+    PathFamily,
+    /// The edges in a cyclic order around each vertex.
+    Rotation,
 }
 
 /// What is asked of a number.
@@ -61,6 +65,8 @@ pub enum GraphObject {
 pub enum NumberCommand {
     /// Writes the problem of the number.
     Generate,
+    /// Tells how large the largest independent sets of the number's problem are.
+    Sample,
 }
 
 impl ProblemCommand {
@@ -102,6 +108,10 @@ impl GraphObject {
             Some(GraphObject::Matching)
         } else if word == "cactus" {
             Some(GraphObject::Cactus)
+        } else if word == "spaths" {
+            Some(GraphObject::PathFamily)
+        } else if word == "genus" {
+            Some(GraphObject::Rotation)
         } else {
             None
         }
@@ -116,6 +126,8 @@ impl NumberCommand {
     {
         if word == "generate" {
             Some(NumberCommand::Generate)
+        } else if word == "sample" {
+            Some(NumberCommand::Sample)
         } else {
             None
         }

@@ -2,10 +2,10 @@
 
 ghost use Rattle.std.specs.Prelude.{◌≡◌, ◌≤◌, Err, IfErr, IfOk, length};
 ghost use Rattle.line_lexer.specs.declared.refusal.TextRefusal.{TextRefusal};
-ghost use Rattle.parity_program.specs.Inputs.{behind, input_of, numbered, status_of};
+ghost use Rattle.parity_program.specs.Inputs.{behind, input_of, numbered, object_of, status_of};
 ghost use Rattle.line_lexer.specs.Seen.{most_bytes};
 ghost use Rattle.parity_program.specs.Replies.{IsGraphReply, IsReply};
-ghost use Rattle.parity_program.specs.Shown.{IsNoByteLimit, RepliesTo, meant_by, shown};
+ghost use Rattle.parity_program.specs.Shown.{IsNoByteLimit, RepliesTo, Suits, meant_by, shown};
 ghost use Rattle.parity_program.specs.declared.command.Command.TheVariants.{OfText};
 ghost use Rattle.parity_program.specs.declared.command.TextCommand.TheVariants.{OverProblem, OverGraph};
 ghost use Rattle.parity_text.specs.Texts.{head, problem};
@@ -16,16 +16,21 @@ ghost use Rattle.text_forms.specs.Reading.{chain};
 
 use crate::cactus::cactus;
 use crate::check::check;
+use crate::connection::connected_for;
 use crate::convert::convert;
 use crate::generate::generate;
+use crate::genus::genus;
 use crate::graph_reader::graph_of;
 use crate::improve::improve;
 use crate::matching::matching;
 use crate::reply::Reply;
+use crate::sample::sample;
 use crate::solve::solve;
+use crate::spaths::spaths;
 use crate::{GraphCommand, GraphObject, NumberCommand, ProblemCommand, Status, TextCommand};
 use field_core::Field;
 use graph_core::Graph;
+use graph_text::graphs_are_within_limits;
 use line_lexer::Lexer;
 use parity_text::{read_head, read_problem};
 use small_fields::{F2, F3, F5, F251, F256, FieldName};
@@ -84,11 +89,14 @@ fn reply_to_problem(alloc: Global, command: ProblemCommand, bytes: &[u8]) -> Res
 
 /// The reply to a graph.
 fn reply_of_graph(alloc: Global, command: GraphCommand, graph: &Graph) -> Result<Reply, AllocError>
+    requires { Suits (object_of command) graph.now }
     ensures { IfOk result (λ reply. IsGraphReply command graph.now (shown reply)) }
 {
     match command {
         GraphCommand::Find(GraphObject::Matching) => matching(alloc, graph),
         GraphCommand::Find(GraphObject::Cactus) => cactus(alloc, graph),
+        GraphCommand::Find(GraphObject::PathFamily) => spaths(alloc, graph),
+        GraphCommand::Find(GraphObject::Rotation) => genus(alloc, graph),
         GraphCommand::Convert(object) => convert(alloc, object, graph),
     }
 }
@@ -100,7 +108,10 @@ fn reply_to_graph(alloc: Global, command: GraphCommand, bytes: &[u8]) -> Result<
     ensures kind { IfErr result IsNoByteLimit }
 {
     let mut lexer = Lexer::new(bytes);
-    let graph = graph_of(alloc, command.object(), &mut lexer)?;
+    let object = command.object();
+    let graph = graph_of(alloc, object, &mut lexer)?;
+    graphs_are_within_limits();
+    connected_for(alloc, object, &graph)?;
     Ok(reply_of_graph(alloc, command, &graph)?)
 }
 
@@ -122,5 +133,6 @@ pub fn reply_to_number(alloc: Global, command: NumberCommand, n: u32) -> Result<
 {
     match command {
         NumberCommand::Generate => generate(alloc, n),
+        NumberCommand::Sample => sample(alloc, n),
     }
 }

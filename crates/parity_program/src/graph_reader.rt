@@ -3,12 +3,14 @@
 ghost use Rattle.std.specs.Prelude.{◌≡◌, ◌≤◌, IfErr, IfOk, length, ℕ, List};
 ghost use Rattle.graph_text.specs.Texts.{graph};
 ghost use Rattle.line_lexer.specs.Lines.{Line, lines as text_lines};
-ghost use Rattle.parity_program.specs.Inputs.{graph_for, with_few_triangles, most_vertices};
+ghost use Rattle.parity_program.specs.Inputs.{graph_for, most_vertices, with_few_cycles, with_few_triangles};
 ghost use Rattle.parity_program.specs.Triangles.{triangle_count};
+ghost use Rattle.parity_program.specs.declared.command.GraphObject.TheVariants.{Cactus, Rotation};
 ghost use Rattle.text_forms.specs.Gives.{Gives, IsOfText};
 ghost use Rattle.text_forms.specs.Reading.{chain};
 
 use crate::GraphObject;
+use crate::cycles::within_cycles;
 use graph_core::Graph;
 use graph_text::{graphs_are_within_limits, read_graph};
 use line_lexer::{Counted, Lexer, TextRefusal};
@@ -17,12 +19,15 @@ use std::alloc::{AllocError, Global};
 /// How many vertices a graph may have.
 const MOST_VERTICES: u32 = 128;
 
+/// How many it may have where disjoint paths are looked for.
+const MOST_VERTICES_WITH_PATHS: u32 = 64;
+
 /// How many triangles it may have where a cactus is looked for.
 const MOST_TRIANGLES: usize = 2048;
 
 /// How many triangles the graph has.
 fn triangles_of(alloc: Global, graph: &Graph) -> Result<usize, AllocError>
-    requires { length graph.now.names ≤ most_vertices }
+    requires { length graph.now.names ≤ most_vertices Cactus }
     ensures value { IfOk result (λ count. count ≡ triangle_count (length graph.now.names) graph.now.ends) }
     ensures small { IfOk result (λ count. count ≤ 2097152) }
 {
@@ -33,7 +38,7 @@ fn triangles_of(alloc: Global, graph: &Graph) -> Result<usize, AllocError>
 
 /// Whether the graph has no more triangles than it may have. `Limit` says how many there are.
 fn within_triangles(alloc: Global, graph: &Graph) -> Result<(), TextRefusal>
-    requires { length graph.now.names ≤ most_vertices }
+    requires { length graph.now.names ≤ most_vertices Cactus }
     ensures gives { (line : ℕ) (left : List Line) → Gives (λ _. (graph.now, left)) result (with_few_triangles graph.now line left) }
     ensures kind { IfErr result IsOfText }
 {
@@ -50,12 +55,24 @@ fn within_triangles(alloc: Global, graph: &Graph) -> Result<(), TextRefusal>
 /// The graph in which a cactus is looked for, up to the end of the input.
 fn graph_with_few_triangles(alloc: Global, lexer: &mut Lexer<'_>) -> Result<Graph, TextRefusal>
     ensures gives { Gives (λ g. (g, lexer.new.ahead)) result
-        (chain (graph most_vertices) with_few_triangles (length (text_lines lexer.old.bytes)) lexer.old.ahead) }
+        (chain (graph (most_vertices Cactus)) with_few_triangles (length (text_lines lexer.old.bytes)) lexer.old.ahead) }
     ensures kind { IfErr result IsOfText }
 {
     let graph = read_graph(alloc, lexer, MOST_VERTICES)?;
     graphs_are_within_limits();
     within_triangles(alloc, &graph)?;
+    Ok(graph)
+}
+
+/// The graph in which a rotation is looked for, up to the end of the input.
+fn graph_with_few_cycles(alloc: Global, lexer: &mut Lexer<'_>) -> Result<Graph, TextRefusal>
+    ensures gives { Gives (λ g. (g, lexer.new.ahead)) result
+        (chain (graph (most_vertices Rotation)) with_few_cycles (length (text_lines lexer.old.bytes)) lexer.old.ahead) }
+    ensures kind { IfErr result IsOfText }
+{
+    let graph = read_graph(alloc, lexer, MOST_VERTICES)?;
+    graphs_are_within_limits();
+    within_cycles(alloc, &graph)?;
     Ok(graph)
 }
 
@@ -72,5 +89,7 @@ pub fn graph_of(
     match object {
         GraphObject::Matching => read_graph(alloc, lexer, MOST_VERTICES),
         GraphObject::Cactus => graph_with_few_triangles(alloc, lexer),
+        GraphObject::PathFamily => read_graph(alloc, lexer, MOST_VERTICES_WITH_PATHS),
+        GraphObject::Rotation => graph_with_few_cycles(alloc, lexer),
     }
 }

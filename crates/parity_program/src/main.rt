@@ -5,8 +5,9 @@
 //! `specs/Inputs.antt` what the bytes mean to each, `specs/Replies.antt` what the reply is,
 //! `specs/Outcome.antt` what each status says, `specs/StatusLines.antt` the codes and lines. `check` replies
 //! with the verdict on an answer, `improve` with a longer independent set that one step makes of a set of lines,
-//! that there is none, or a relation (`specs/Improvements.antt`), `solve` with a good answer, `matching` and `cactus` with
-//! a largest object of a graph, `convert` with the problem of a graph, `generate` with the problem of a number.
+//! that there is none, or a relation (`specs/Improvements.antt`), `solve` with a good answer, `matching`, `cactus`, `spaths`
+//! and `genus` with a largest object of a graph, `convert` with the problem of a graph, `generate` with the problem of a
+//! number, `sample` with the size of its largest sets.
 //! `main` only makes the real source and sink. `specs/Shown.antt` has what only private functions speak of, and
 //! `proofs/Refusals.antt` and `proofs/Outcomes.antt` what the proofs of a command and of a run share.
 #![tactic(auto)]
@@ -18,26 +19,33 @@ ghost use Rattle.parity_program.specs.StatusLines.{code_of};
 mod cactus;
 mod check;
 mod command;
+mod connection;
 mod convert;
+mod cycles;
 mod dispatch;
 mod generate;
+mod genus;
 mod graph_reader;
 mod improve;
 mod laws;
 mod matching;
+#[cfg(test)]
+mod numbered;
 mod reply;
 mod running;
+mod sample;
 mod solve;
 #[cfg(test)]
 mod solved;
 mod solver;
+mod spaths;
 mod status;
 mod status_line;
 #[cfg(test)]
 mod tests;
 
 pub use command::{Command, GraphCommand, GraphObject, NumberCommand, ProblemCommand, TextCommand};
-pub use laws::conversions_are_solvable;
+pub use laws::{conversions_are_solvable, generated_problems_are_solvable};
 pub use running::run;
 pub use status::Status;
 pub use status_line::StatusLine;

@@ -92,8 +92,10 @@ fn run_command<I: Source, O: Sink>(
 /// after any other status nothing. To `improve` that is an independent set that one step makes of the set in
 /// the input and that is one line longer, `none` exactly where there is no such set, and where the set is
 /// dependent a relation of its vectors. To `solve` it is a good answer of the problem in the input, so its set is
-/// largest; to `matching` and `cactus` a largest matching or triangle cactus of the graph in the input; to `convert` the
-/// parity problem by which that is found. `generate` reads nothing, and its reply is the text of a number's problem.
+/// largest; to `matching`, `cactus` and `spaths` a largest matching, triangle cactus or family of disjoint paths of the
+/// graph in the input, to `genus` a rotation of maximum genus; to `convert` the parity problem by which that is found.
+/// `generate` and `sample` read nothing: the one replies with the text of a number's problem, the other with how many
+/// lines its largest independent sets have.
 /// With words that are no command's, nothing is read or written. `complete` says that an accepted input is
 /// answered, faults and want of memory aside.
 pub fn run<I: Source, O: Sink>(

@@ -1,6 +1,6 @@
-//! What `solve`, `matching` and `cactus` reply.
+//! What `solve` and the commands over graphs reply.
 
-use crate::tests::{HUB, STAR, assert_rows, lines, ran, words};
+use crate::tests::{HUB, STAR, THREE_CLASSES, assert_rows, complete, lines, ran, star, words};
 use crate::{Status, run};
 use line_lexer::Counted;
 use std::alloc::{AllocError, Global};
@@ -23,12 +23,33 @@ graph 1 / edge a b / edge b c / edge c a / edge c d / edge d e / edge e f / edge
 const CACTI: &str = "graph 1 => done => cactus 1 / size 0 / end
 graph 1 / edge a b / edge b c / edge c a / edge c d / edge d e / edge e c => done => cactus 1 / size 2 / triangle a b c / triangle c d e / end";
 
+/// Graphs with one largest family of paths only.
+const FAMILIES: &str = "graph 1 => done => paths 1 / count 0 / end
+graph 1 / edge a x / edge x b / class a / class b => done => paths 1 / count 1 / path a x b / end
+graph 1 / edge a x / edge x b / class a b => done => paths 1 / count 0 / end
+graph 1 / class b / edge a b / edge a a / class a => done => paths 1 / count 1 / path b a / end
+graph 1 / edge d c / edge b a / class a c / class b d => done => paths 1 / count 2 / path d c / path b a / end";
+
+/// Graphs of which each rotation of maximum genus is written like this.
+const ROTATIONS: &str = "graph 1 => done => rotation 1 / genus 0 / faces 0 / end
+graph 1 / vertex a => done => rotation 1 / genus 0 / faces 1 / at a / end
+graph 1 / edge a a => done => rotation 1 / genus 0 / faces 2 / at a 1+ 1- / end
+graph 1 / edge b a => done => rotation 1 / genus 0 / faces 1 / at b 1+ / at a 1- / end
+graph 1 / edge a b / edge a b => done => rotation 1 / genus 0 / faces 2 / at a 1+ 2+ / at b 1- 2- / end";
+
+/// Graphs with more than one rotation of maximum genus, and how each is begun.
+const BEGUN_ROTATIONS: &str = "graph 1 / edge a a / edge a a => rotation 1 / genus 1 / faces 1
+graph 1 / edge a a / edge a b / edge b b => rotation 1 / genus 0 / faces 3
+graph 1 / edge a b / edge a b / edge a b => rotation 1 / genus 1 / faces 1";
+
 #[test]
 fn only_replies_come(rt: HostRuntime) -> Result<(), Fail> {
     let alloc = rt.alloc();
     assert_rows(&rt, alloc, "solve", &[], SOLVED)?;
     assert_rows(&rt, alloc, "matching", &[], MATCHINGS)?;
     assert_rows(&rt, alloc, "cactus", &[], CACTI)?;
+    assert_rows(&rt, alloc, "spaths", &[], FAMILIES)?;
+    assert_rows(&rt, alloc, "genus", &[], ROTATIONS)?;
     Ok(())
 }
 
@@ -130,6 +151,25 @@ fn graphs_have_largest_objects(rt: HostRuntime) -> Result<(), Fail> {
         "",
     )?;
     assert_begins(&rt, alloc, "cactus", &graph, "cactus 1 / size 1")?;
+    let graph = lines(alloc, THREE_CLASSES, "")?;
+    assert_begins(&rt, alloc, "spaths", &graph, "paths 1 / count 1")?;
+    Ok(())
+}
+
+#[test]
+fn rotations_have_maximum_genus(rt: HostRuntime) -> Result<(), Fail> {
+    let alloc = rt.alloc();
+    for row in BEGUN_ROTATIONS.split('\n') {
+        let mut parts = row.split(" => ");
+        let graph = lines(alloc, parts.next().unwrap_or(""), "")?;
+        assert_begins(&rt, alloc, "genus", &graph, parts.next().unwrap_or(""))?;
+    }
+    let four = complete(alloc, b"abcd")?;
+    assert_begins(&rt, alloc, "genus", &four, "rotation 1 / genus 1 / faces 2")?;
+    let five = complete(alloc, b"abcde")?;
+    assert_begins(&rt, alloc, "genus", &five, "rotation 1 / genus 3 / faces 1")?;
+    let tree = star(alloc, b"abcdefgh")?;
+    assert_begins(&rt, alloc, "genus", &tree, "rotation 1 / genus 0 / faces 1")?;
     Ok(())
 }
 
@@ -149,6 +189,9 @@ fn conversions_are_solved(rt: HostRuntime) -> Result<(), Fail> {
         &problem,
         "answer 1 / size 3 / set 1 4 6",
     )?;
+    let graph = lines(alloc, THREE_CLASSES, "")?;
+    let problem = assert_begins(&rt, alloc, "convert spaths", &graph, "# offset 2")?;
+    assert_begins(&rt, alloc, "solve", &problem, "answer 1 / size 3")?;
     Ok(())
 }
 

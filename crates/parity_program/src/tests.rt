@@ -218,12 +218,31 @@ const PROBLEMS_OF_TRIANGLES: &str =
 graph 1 / edge a b / edge b c / edge c a => done => # offset 0 / parity 1 / field 2 / dimension 3 / lines 1 / line 1 1 0 | 0 1 1
 graph 1 / edge c d / edge d a / edge a c / edge a b / edge b c => done => # offset 0 / parity 1 / field 2 / dimension 4 / lines 2 / line 1 1 0 0 | 0 1 1 0 / line 1 0 1 0 | 0 0 1 1";
 
+/// One vertex between three terminals of different classes, and a component without a terminal.
+pub const THREE_CLASSES: &str =
+    "graph 1 / edge a c / edge b c / edge d c / edge x y / class a / class b / class d";
+
+/// The problem of its paths.
+const PROBLEMS_OF_PATHS: &str =
+    " => done => # offset 2 / parity 1 / field 251 / dimension 9 / lines 4 / line 0 250 0 0 0 0 0 0 0 | 1 0 250 0 0 0 0 0 0 / line 0 250 0 250 0 0 0 0 0 | 0 0 250 1 0 0 0 0 0 / line 0 250 0 0 249 0 0 0 0 | 0 0 250 0 1 0 0 0 0 / line 0 0 0 0 0 1 0 250 0 | 0 0 0 0 0 0 1 0 250";
+
+/// Graphs in which no rotation is looked for.
+const APART: &str = "graph 1 / edge a b / vertex c => not connected: vertex 3
+graph 1 / vertex b a => not connected: vertex 2
+graph 1 / edge a b / edge c c / edge c a / edge e d => not connected: vertex 4";
+
+/// And others, with the problems of their pairs of edges.
+const PROBLEMS_OF_PAIRS: &str =
+    "graph 1 => done => # offset 0 / parity 1 / field 2 / dimension 0 / lines 0
+graph 1 / edge a a / edge a a => done => # offset 0 / parity 1 / field 2 / dimension 2 / lines 1 / line 1 0 | 0 1
+graph 1 / edge a b / edge b c / edge c a => done => # offset 0 / parity 1 / field 2 / dimension 1 / lines 3 / line 1 | 1 / line 1 | 1 / line 1 | 1";
+
 /// How the problem of 7 begins.
 const PROBLEM_OF_SEVEN: &str =
     "parity 1 / field 2 / dimension 60 / lines 150 / line 0 0 0 0 0 1 0 0 1 0 1 0 0 0 0 0 0 0 0 0 0 0 0 0 0 0 0 0 0 0 0 0 0 0 0 0 0 0 0 0 0 0 0 0 0 0 0 0 0 0 0 0 0 0 0 0 0 0 0 0 | 0 1 0 1 1 0 1 1 1 0 0 0 0 0 0 0 0 0 0 0 0 0 0 0 0 0 0 0 0 0 0 0 0 0 0 0 0 0 0 0 0 0 0 0 0 0 0 0 0 0 0 0 0 0 0 0 0 0 0 0";
 
 /// Words that are no command's; ` ` stands between them.
-const OTHER_WORDS: [&str; 21] = [
+const OTHER_WORDS: [&str; 32] = [
     "",
     "check x",
     "improve extra",
@@ -237,6 +256,10 @@ const OTHER_WORDS: [&str; 21] = [
     "convert matching cactus",
     "cactus convert",
     "converted matching",
+    "spaths 1",
+    "convert spath",
+    "convert genera",
+    "genus spaths",
     "generate",
     "generate 007",
     "generate 00",
@@ -245,6 +268,13 @@ const OTHER_WORDS: [&str; 21] = [
     "generate +7",
     "generate x",
     "generate 7 8",
+    "sample",
+    "sample 007",
+    "sample 4294967296",
+    "sample -1",
+    "sample 7 8",
+    "convert sample",
+    "solve x",
 ];
 
 /// Puts the lines of a text last, each ended by LF.
@@ -384,7 +414,7 @@ fn graphs_are_converted(rt: HostRuntime) -> Result<(), Fail> {
     assert_rows(&rt, alloc, "solve", &[], UNSOLVED)?;
     for command in ["matching", "cactus", "convert matching", "convert cactus"] {
         assert_rows(&rt, alloc, command, &[], REFUSED_GRAPHS)?;
-        let (status, written) = ran(alloc, command, &isolated(alloc)?)?;
+        let (status, written) = ran(alloc, command, &isolated(alloc, b"abcdefghijklm")?)?;
         assert_eq!(rt;
             status,
             Status::Limit {
@@ -399,11 +429,11 @@ fn graphs_are_converted(rt: HostRuntime) -> Result<(), Fail> {
     Ok(())
 }
 
-/// 129 vertices.
-fn isolated(alloc: Global) -> Result<Vec<u8>, AllocError> {
+/// A vertex for each two of these letters.
+fn isolated(alloc: Global, letters: &[u8]) -> Result<Vec<u8>, AllocError> {
     let mut out = lines(alloc, "graph 1", "")?;
-    for first in b"abcdefghijklm" {
-        for second in b"abcdefghijklm" {
+    for first in letters {
+        for second in letters {
             out.extend_from_slice(b"vertex ")?;
             out.push(*first)?;
             out.push(*second)?;
@@ -413,8 +443,78 @@ fn isolated(alloc: Global) -> Result<Vec<u8>, AllocError> {
     Ok(out)
 }
 
+#[test]
+fn paths_are_converted(rt: HostRuntime) -> Result<(), Fail> {
+    let alloc = rt.alloc();
+    let graph = lines(alloc, THREE_CLASSES, "")?;
+    assert_rows(&rt, alloc, "convert spaths", &graph, PROBLEMS_OF_PATHS)?;
+    let most = isolated(alloc, b"abcdefgh")?;
+    assert_rows(
+        &rt,
+        alloc,
+        "spaths",
+        &most,
+        " => done => paths 1 / count 0 / end",
+    )?;
+    let more = "vertex x => limit: vertices 65";
+    for command in ["spaths", "convert spaths"] {
+        assert_rows(&rt, alloc, command, &[], REFUSED_GRAPHS)?;
+        assert_rows(&rt, alloc, command, &most, more)?;
+    }
+    Ok(())
+}
+
+/// A vertex with an edge to a vertex for each two of these letters.
+pub fn star(alloc: Global, letters: &[u8]) -> Result<Vec<u8>, AllocError> {
+    let mut out = lines(alloc, "graph 1", "")?;
+    for first in letters {
+        for second in letters {
+            out.extend_from_slice(b"edge 0 ")?;
+            out.push(*first)?;
+            out.push(*second)?;
+            out.push(b'\n')?;
+        }
+    }
+    Ok(out)
+}
+
+/// 128 vertices in a circle, each with an edge to the next and to the one after that.
+fn circle(alloc: Global) -> Result<Vec<u8>, AllocError> {
+    let mut out = lines(alloc, "graph 1", "")?;
+    for v in 0..128 {
+        let edges = format!(in alloc;
+            "edge {} {}\nedge {} {}\n",
+            v,
+            (v + 1) % 128,
+            v,
+            (v + 2) % 128
+        )?;
+        out.extend_from_slice(edges.as_bytes())?;
+    }
+    Ok(out)
+}
+
+#[test]
+fn rotations_are_converted(rt: HostRuntime) -> Result<(), Fail> {
+    let alloc = rt.alloc();
+    assert_rows(&rt, alloc, "convert genus", &[], PROBLEMS_OF_PAIRS)?;
+    let most = star(alloc, b"abcdefgh")?;
+    let (status, written) = ran(alloc, "convert genus", &most)?;
+    let begins = "# offset 0 / parity 1 / field 2 / dimension 0 / lines 2016";
+    assert_eq!(rt; status, Status::Done);
+    assert!(rt; written.starts_with(&lines(alloc, begins, "")?));
+    let circle = circle(alloc)?;
+    for command in ["genus", "convert genus"] {
+        assert_rows(&rt, alloc, command, &[], REFUSED_GRAPHS)?;
+        assert_rows(&rt, alloc, command, &[], APART)?;
+        assert_rows(&rt, alloc, command, &most, "edge 0 x => limit: pairs 2080")?;
+        assert_rows(&rt, alloc, command, &circle, " => limit: cycle rank 129")?;
+    }
+    Ok(())
+}
+
 /// The graph of which each two vertices are adjacent.
-fn complete(alloc: Global, names: &[u8]) -> Result<Vec<u8>, AllocError> {
+pub fn complete(alloc: Global, names: &[u8]) -> Result<Vec<u8>, AllocError> {
     let mut out = lines(alloc, "graph 1", "")?;
     for first in names {
         for second in names {

@@ -71,7 +71,8 @@ module _ (S : Scalars) (p : ParityProblem) (within : IsWithinLimits S p) where
       let second = vector_length l.1 h.1 in
       omega (arith, line, parts, first, second)
 
-  pairs_length : (ls : List (List ℕ × List ℕ)) → AllByRecursion (λ (l : List ℕ × List ℕ). IsVector S p.dimension l.0 × IsVector S p.dimension l.1) ls
+  pairs_length : (ls : List (List ℕ × List ℕ))
+      → AllByRecursion (λ (l : List ℕ × List ℕ). IsVector S p.dimension l.0 × IsVector S p.dimension l.1) ls
       → length (spelled (map pair_words ls)) ≤ length ls * 1032
   unfolding spelled
   pairs_length [] h = omega arith

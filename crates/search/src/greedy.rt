@@ -1,5 +1,6 @@
 //! Independent sets that are taken line by line.
 
+ghost use Rattle.std.specs.List.{range_with_len};
 ghost use Rattle.std.specs.Prelude.{◌≡◌, ◌∷◌, ◌++◌, [], ◌<◌, All, IfOk, length};
 ghost use Rattle.parity_lines.specs.LineSets.{IsIndependentSet};
 ghost use Rattle.search.specs.Taken.{TellsTaken};
@@ -9,9 +10,10 @@ use field_core::Field;
 use parity_lines::{LineSet, Problem};
 use std::alloc::{AllocError, Global};
 
-/// The lines below `count`.
+/// The lines below `count`, in order.
 pub fn lines_below(alloc: Global, count: usize) -> Result<LineSet, AllocError>
-    ensures { IfOk result (λ set. All (λ m. m < count) set) }
+    ensures all { IfOk result (λ set. set ≡ range_with_len 0 count) }
+    ensures below { IfOk result (λ set. All (λ m. m < count) set) }
 {
     let mut set = LineSet::new(alloc);
     for line in 0..count {

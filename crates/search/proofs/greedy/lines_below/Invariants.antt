@@ -1,5 +1,5 @@
-use Rattle.std.proofs.Common.{◌<◌, All}
+use Rattle.search.proofs.Ranges.{AreAllBelow}
 use Rattle.search.proofs.greedy.lines_below.Given as goal
 
 abbrev pub invariant-loop-line : goal.invariant-loop-line
-invariant-loop-line l = All (λ m. m < l.line) l.set
+invariant-loop-line l = AreAllBelow l.line l.set

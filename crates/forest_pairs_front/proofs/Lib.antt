@@ -1,0 +1,5 @@
+pub mod PairProblems
+pub mod EndSums
+pub mod ForestSets
+pub mod SpareSets
+pub mod PairPieces

@@ -1,0 +1,23 @@
+use Rattle.std.proofs.Common.{length, refl}
+use Rattle.std.proofs.lemmas.Result.{IfOk-weaker}
+use Rattle.small_fields.specs.Laws.ModularField.{modular_field}
+use Rattle.small_fields.specs.Laws.Primes.{prime_2}
+use Rattle.small_fields.specs.ScalarsOf.{scalars_of}
+use Rattle.forest_pairs_front.proofs.SpareSets.{largest_spares, spare_sets}
+use Rattle.forest_pairs_front.proofs.spares.spare_problem.Goals as goal
+
+pub returns-clause-independent : goal.returns-clause-independent
+returns-clause-independent c = IfOk-weaker c.problem_of.result _ _ (λ p is. spare_sets (scalars_of 2) (modular_field 2 prime_2) refl
+    (length c.args.graph.now.names) c.args.graph.now.ends c.edges-edges.ensures.graph.within c.requires p (record {
+      rows = c.in_ok-rows.rows;
+      cographic = c.in_ok-rows.ensures.rows;
+      problem = is;
+    })) c.problem_of.ensures
+
+pub returns-clause-largest : goal.returns-clause-largest
+returns-clause-largest c = IfOk-weaker c.problem_of.result _ _ (λ p is. largest_spares (scalars_of 2) (modular_field 2 prime_2) refl
+    (length c.args.graph.now.names) c.args.graph.now.ends c.edges-edges.ensures.graph.within c.requires p (record {
+      rows = c.in_ok-rows.rows;
+      cographic = c.in_ok-rows.ensures.rows;
+      problem = is;
+    })) c.problem_of.ensures

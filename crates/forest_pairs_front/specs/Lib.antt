@@ -1,0 +1,3 @@
+pub mod ListedPairs
+pub mod PairLines
+pub mod Spelled

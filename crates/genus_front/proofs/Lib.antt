@@ -1,0 +1,9 @@
+pub mod ListedPairs
+pub mod SameEdges
+pub mod IndependentSets
+pub mod LargestSets
+pub mod SpanningForests
+pub mod EdgeLists
+pub mod GrownRotations
+pub mod EdgeParts
+pub mod SetRotations

@@ -1,0 +1,4 @@
+pub mod GenusProblems
+pub mod GrownRotations
+pub mod SpanningForests
+pub mod EdgeParts

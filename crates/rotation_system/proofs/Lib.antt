@@ -1,0 +1,9 @@
+pub mod DartLists
+pub mod PutDarts
+pub mod Systems
+pub mod DartSteps
+pub mod FaceTraces
+pub mod TreeGrowth
+pub mod WalkDarts
+pub mod TwoFaces
+pub mod PairsPut
