@@ -115,6 +115,15 @@ def wheel(vertices):
     return [edge for i in range(1, vertices) for edge in ((0, i), (i, i % rim + 1))]
 
 
+def triangles(edges):
+    """How many triangles a graph has."""
+    around = {}
+    for a, b in edges:
+        around.setdefault(a, set()).add(b)
+        around.setdefault(b, set()).add(a)
+    return sum(len(around[a] & around[b]) for a, b in {(min(e), max(e)) for e in edges if e[0] != e[1]}) // 3
+
+
 def two_tree(rng, vertices):
     """Each vertex makes a triangle with an earlier edge."""
     found = [(0, 1)]
