@@ -18,7 +18,7 @@ from pathlib import Path
 
 import families
 
-PROGRAM = Path(__file__).resolve().parent.parent / "crates/parity_program/out/parity_program"
+PROGRAM = Path(__file__).resolve().parent.parent / "crates/parity/out/parity"
 # The line of a reply that tells its size.
 SIZES = {"matching": "size", "cactus": "size", "spaths": "count", "genus": "genus"}
 

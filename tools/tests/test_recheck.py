@@ -217,7 +217,7 @@ class Commands(unittest.TestCase):
 class Program(unittest.TestCase):
     """The replies of the built program itself, where it is built."""
 
-    PROGRAM = ROOT / "crates" / "parity_program" / "out" / "parity_program"
+    PROGRAM = ROOT / "crates" / "parity" / "out" / "parity"
 
     def reply(self, words, given=b""):
         return subprocess.run([self.PROGRAM, *words.split()], input=given, capture_output=True, check=False)

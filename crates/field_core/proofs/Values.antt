@@ -1,7 +1,8 @@
 -- The numbers of values of a field are scalars.
-use Rattle.std.proofs.Common.{◌≡◌, ℕ, List, [], ◌∷◌, ◌++◌, length, map, sym, ap, ◌∙◌, subst, All}
+use Rattle.std.proofs.Common.{◌≡◌, ℕ, List, [], ◌∷◌, ◌++◌, length, map, slice_set, sym, ap, ◌∙◌, subst, All}
+use Rattle.std.specs.List.{refill}
 use Rattle.std.proofs.lemmas.List.{length-map}
-use Rattle.std.proofs.lemmas.List.Elements.{All-nil, All-cons, All-push}
+use Rattle.std.proofs.lemmas.List.Elements.{All-nil, All-cons, All-push, All-set}
 use Rattle.linear_algebra.specs.Scalars.{Scalars, IsScalar}
 use Rattle.linear_algebra.specs.Vectors.{IsVector}
 use Rattle.field_core.specs.Matrix.{Matrix}
@@ -21,3 +22,12 @@ module _ (S : Scalars) {X : Type 0} (f : X → ℕ) (in_scalars : (x : X) → Is
       let is_vector : IsVector S held.width row = subst (IsVector S held.width) (sym is_row)
       (vector_of_values v held.width (long ∙ sym (ap (λ (m : Matrix). m.width) same))) in
       subst (All (IsVector S held.width)) (sym is_pushed) (All-push (IsVector S held.width) held.rows row before is_vector)
+
+  -- values are written in the place of a row
+  pub put_values : (width i : ℕ) (rows : List (List ℕ)) (held : List ℕ) (v : List X) → All (IsVector S width) rows → length v ≡ width
+      → ((written : List ℕ) → length written ≡ length held → refill (length held) held written ≡ written) → length (map f v) ≡ length held
+      → All (IsVector S width) (slice_set rows i (refill (length held) held (map f v)))
+  put_values width i rows held v before long whole same =
+      let now : List ℕ = refill (length held) held (map f v) in
+      All-set (IsVector S width) rows i now
+      (subst (IsVector S width) {y = now} (sym (whole (map f v) same)) (vector_of_values v width long)) before

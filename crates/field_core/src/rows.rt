@@ -1,6 +1,7 @@
 //! A list of vectors of one width.
 
-ghost use Rattle.std.specs.Prelude.{◌≡◌, ◌<◌, ◌^◌, IfOk, OnOk, OnErr, [], ◌∷◌, ◌++◌, List, ℕ, map, length, slice_index_or};
+ghost use Rattle.std.specs.Prelude.{◌≡◌, ◌<◌, ◌^◌, IfOk, OnOk, OnErr, [], ◌∷◌, ◌++◌, List, ℕ, map, length, slice_index_or, slice_set};
+ghost use Rattle.std.specs.List.{swap};
 ghost use Rattle.linear_algebra.specs.Vectors.{AreVectors};
 
 use crate::{Field, Row};
@@ -56,6 +57,24 @@ impl<F: Field> Rows<F> {
         let row = Row::copy_of(self.alloc, v)?;
         self.rows.push(row)?;
         Ok(())
+    }
+
+    /// Puts a vector at a position, in the place of the one that stands there.
+    pub fn put(&mut self, i: usize, v: &[F])
+        requires within { i < length self.old.rows }
+        requires long { length v.now ≡ self.old.width }
+        ensures { self.new ≡ record self.old { rows = slice_set self.old.rows i (map F.number v.now) } }
+    {
+        self.rows[i].as_mut_slice().copy_from_slice(v);
+    }
+
+    /// Two vectors in each other's place.
+    pub fn swap(&mut self, i: usize, j: usize)
+        requires first { i < length self.old.rows }
+        requires second { j < length self.old.rows }
+        ensures { self.new ≡ record self.old { rows = swap self.old.rows i j } }
+    {
+        self.rows.swap(i, j);
     }
 
     /// How many vectors there are.

@@ -9,7 +9,7 @@ use graph_core::{EdgeList, Graph};
 use std::alloc::{AllocError, Global};
 
 /// The edges whose ends are not joined by those kept before, in order.
-pub(crate) fn spanning_forest(
+pub fn spanning_forest(
     alloc: Global,
     graph: &Graph,
     edges: &EdgeList,

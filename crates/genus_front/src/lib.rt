@@ -6,6 +6,9 @@
 //! each pair makes the genus one larger. Conversely a rotation of genus g gives g such pairs, so the largest size is the maximum genus
 //! ([`largest_sets_have_the_size_of_the_maximum_genus`]; N. H. Xuong; L. Lovász and M. D. Plummer, Matching Theory, chapter 11). Genus and
 //! rotations are told by the graph alone (`rotation_theory/specs`).
+//!
+//! The lists of edges that this needs stand apart, for other problems of pairs: [`all_edges`], [`edges_of`] the pairs of a set, those
+//! [`outside`] a list, and a [`spanning_forest`].
 #![tactic(auto)]
 
 mod conversion;
@@ -16,5 +19,7 @@ mod lists;
 mod system;
 
 pub use conversion::to_parity;
+pub use forests::spanning_forest;
 pub use laws::largest_sets_have_the_size_of_the_maximum_genus;
+pub use lists::{all_edges, edges_of, outside};
 pub use system::from_set;

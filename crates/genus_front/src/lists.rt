@@ -10,7 +10,7 @@ use parity_lines::LineSet;
 use std::alloc::{AllocError, Global};
 
 /// All edges of a graph, in order.
-pub(crate) fn all_edges(alloc: Global, graph: &Graph) -> Result<EdgeList, AllocError>
+pub fn all_edges(alloc: Global, graph: &Graph) -> Result<EdgeList, AllocError>
     ensures { IfOk result (λ list. list ≡ edge_numbers graph.now.ends) }
 {
     let mut list = EdgeList::new(alloc);
@@ -21,11 +21,7 @@ pub(crate) fn all_edges(alloc: Global, graph: &Graph) -> Result<EdgeList, AllocE
 }
 
 /// Both edges of the pairs at the positions of a set.
-pub(crate) fn edges_of(
-    alloc: Global,
-    pairs: &EdgePairs,
-    set: &LineSet,
-) -> Result<EdgeList, AllocError>
+pub fn edges_of(alloc: Global, pairs: &EdgePairs, set: &LineSet) -> Result<EdgeList, AllocError>
     requires { All (λ i. i < length pairs.now) set.now }
     ensures { IfOk result (λ list. list ≡ edges_of pairs.now set.now) }
 {
@@ -39,11 +35,7 @@ pub(crate) fn edges_of(
 }
 
 /// The edges of a list that don't stand in another, in order.
-pub(crate) fn outside(
-    alloc: Global,
-    edges: &EdgeList,
-    others: &EdgeList,
-) -> Result<EdgeList, AllocError>
+pub fn outside(alloc: Global, edges: &EdgeList, others: &EdgeList) -> Result<EdgeList, AllocError>
     ensures { IfOk result (λ list. list ≡ without others.now edges.now) }
 {
     let mut list = EdgeList::new(alloc);

@@ -30,7 +30,7 @@ pub all_pairs : {X : Type 0} (R : X → X → Type 0) (xs : List X) → Pairwise
 all_pairs R [] h = λ i j d l m. absurd (omega arith)
 all_pairs R (x ∷ xs) h = AllPairs-cons R x xs (all-In (R x) xs h.0) (all_pairs R xs h.1)
 
-Pairwise-append : {X : Type 0} (R : X → X → Type 0) (xs ys : List X) → Pairwise R xs → Pairwise R ys →
+pub Pairwise-append : {X : Type 0} (R : X → X → Type 0) (xs ys : List X) → Pairwise R xs → Pairwise R ys →
     ((x y : X) → In x xs → In y ys → R x y) → Pairwise R (xs ++ ys)
 Pairwise-append R [] ys h k a = k
 Pairwise-append R (x ∷ xs) ys h k a = (

@@ -1,5 +1,5 @@
 mod Entries
-mod Gathered
+pub mod Gathered
 mod Marks
 mod TriangleLists
 mod PairLists

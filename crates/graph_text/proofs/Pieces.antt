@@ -75,6 +75,11 @@ spelled_three : (a b d : List (List ℕ)) (more : List (List (List ℕ)))
 unfolding spelled
 spelled_three a b d more = append_assoc (line_text a) (line_text b) (line_text d ++ spelled more)
 
+-- three lines and the end
+pub three_line_pieces : (a b d : List (List ℕ)) → (line_text a ++ line_text b) ++ (line_text d ++ codes "end\n") ≡ spelled (a ∷ b ∷ d ∷ end_line)
+three_line_pieces a b d = ap (λ (t : List ℕ). (line_text a ++ line_text b) ++ (line_text d ++ t)) (sym end_spelled)
+    ∙ spelled_three a b d end_line
+
 -- three lines, others and the end
 pub longer_pieces : (a b d : List (List ℕ)) (ls : List (List (List ℕ)))
     → (line_text a ++ line_text b) ++ (line_text d ++ (spelled ls ++ codes "end\n")) ≡ spelled (a ∷ b ∷ d ∷ ls ++ end_line)

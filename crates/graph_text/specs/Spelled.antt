@@ -24,6 +24,10 @@ listed_words word g vertices = word ∷ map (name_at g) vertices
 abbrev pub matching_lines : NamedGraph → List ℕ → List (List (List ℕ))
 matching_lines g edges = counted_words (codes "matching") 1 ∷ counted_words (codes "size") (length edges) ∷ map (edge_words g) edges ++ end_line
 
+abbrev pub feedback_lines : NamedGraph → List ℕ → List (List (List ℕ))
+feedback_lines g vertices = counted_words (codes "feedback") 1 ∷ counted_words (codes "size") (length vertices)
+    ∷ listed_words (codes "vertices") g vertices ∷ end_line
+
 abbrev pub cactus_lines : NamedGraph → List (List ℕ) → List (List (List ℕ))
 cactus_lines g triangles = counted_words (codes "cactus") 1 ∷ counted_words (codes "size") (length triangles) ∷ map (listed_words (codes "triangle") g) triangles ++ end_line
 
@@ -33,6 +37,13 @@ paths_lines g paths = counted_words (codes "paths") 1 ∷ counted_words (codes "
 -- a dart by the number of its edge from 1, and a sign: + at the first end, - at the second
 abbrev pub dart_word : ℕ → List ℕ
 dart_word d = decimal (edge d + 1) ++ (if nat_eq (d % 2) 0 then codes "+" else codes "-")
+
+-- the darts of a path
+abbrev pub dart_path_words : List ℕ → List (List ℕ)
+dart_path_words ds = codes "path" ∷ map dart_word ds
+
+abbrev pub edge_paths_lines : List (List ℕ) → List (List (List ℕ))
+edge_paths_lines paths = counted_words (codes "edgepaths") 1 ∷ counted_words (codes "count") (length paths) ∷ map dart_path_words paths ++ end_line
 
 -- the name of a vertex, and the darts that leave it
 abbrev pub at_words : List ℕ × List ℕ → List (List ℕ)

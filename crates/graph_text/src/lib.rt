@@ -10,8 +10,6 @@ mod laws;
 mod lines;
 mod names;
 mod reading;
-#[cfg(test)]
-mod tests;
 mod writers;
 mod writing;
 
@@ -19,4 +17,6 @@ pub use laws::{
     graph_texts_are_causal, graph_texts_give_what_is_spelled, graphs_are_within_limits,
 };
 pub use reading::read_graph;
-pub use writers::{write_cactus, write_matching, write_paths, write_rotation};
+pub use writers::{
+    write_cactus, write_edge_paths, write_feedback, write_matching, write_paths, write_rotation,
+};

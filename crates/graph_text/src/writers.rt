@@ -1,15 +1,15 @@
 //! Writers of the replies that speak of a graph. After want of memory some front of the text stands behind what was there.
 
-ghost use Rattle.std.specs.Prelude.{◌≡◌, ◌<◌, All, length, map};
+ghost use Rattle.std.specs.Prelude.{◌≡◌, ◌<◌, ◌+◌, All, length, map};
 ghost use Rattle.std.specs.List.{zip};
 ghost use Rattle.std.specs.List.Sorted.{IsStrictlyIncreasing};
-ghost use Rattle.graph_text.specs.Spelled.{at_words, edge_words, listed_words};
-ghost use Rattle.graph_text.specs.Spelled.{cactus_lines, matching_lines, paths_lines, rotation_lines, AreVertices, AreTriples, AreInOrder};
+ghost use Rattle.graph_text.specs.Spelled.{at_words, dart_path_words, edge_words, listed_words};
+ghost use Rattle.graph_text.specs.Spelled.{cactus_lines, edge_paths_lines, feedback_lines, matching_lines, paths_lines, rotation_lines, AreVertices, AreTriples, AreInOrder};
 ghost use Rattle.text_forms.specs.Writes.{Writes};
 ghost use Rattle.line_lexer.specs.Words.{spelled};
 
-use crate::writing::{put_darts_at, put_edge, put_head, put_listed};
-use graph_core::{EdgeList, Graph, VertexLists};
+use crate::writing::{put_dart_path, put_darts_at, put_edge, put_head, put_listed};
+use graph_core::{DartLists, EdgeList, Graph, VertexList, VertexLists};
 use rotation_system::Rotation;
 use std::alloc::AllocError;
 use text_forms::{put, put_count};
@@ -78,6 +78,30 @@ pub fn write_paths(out: &mut Vec<u8>, graph: &Graph, paths: &VertexLists) -> Res
     put(out, b"end\n")
 }
 
+/// Puts the lines of the paths last.
+fn put_dart_paths(out: &mut Vec<u8>, paths: &DartLists) -> Result<(), AllocError>
+    ensures { Writes out.old.items out.new.items (spelled (map dart_path_words paths.now)) result }
+{
+    for i in 0..paths.len() {
+        put_dart_path(out, paths.at(i))?;
+    }
+    Ok(())
+}
+
+/// Writes edge-disjoint paths of a graph behind what is there, each as its darts.
+pub fn write_edge_paths(
+    out: &mut Vec<u8>,
+    graph: &Graph,
+    paths: &DartLists,
+) -> Result<(), AllocError>
+    requires { All (All (λ d. d < length graph.now.ends + length graph.now.ends)) paths.now }
+    ensures { Writes out.old.items out.new.items (spelled (edge_paths_lines paths.now)) result }
+{
+    put_head(out, b"edgepaths", b"count", paths.len())?;
+    put_dart_paths(out, paths)?;
+    put(out, b"end\n")
+}
+
 /// Puts the lines of all vertices last, each with its darts.
 fn put_rotation(out: &mut Vec<u8>, graph: &Graph, rotation: &Rotation) -> Result<(), AllocError>
     requires { length rotation.now.lists ≡ length graph.now.names }
@@ -104,5 +128,20 @@ pub fn write_rotation(
     put_head(out, b"rotation", b"genus", genus)?;
     put_count(out, b"faces", faces)?;
     put_rotation(out, graph, rotation)?;
+    put(out, b"end\n")
+}
+
+/// Writes a feedback set behind what is there: its size, and the names of its vertices in one line, by increasing number.
+pub fn write_feedback(
+    out: &mut Vec<u8>,
+    graph: &Graph,
+    vertices: &VertexList,
+) -> Result<(), AllocError>
+    requires vertices { AreVertices graph.now vertices.now }
+    requires increasing { IsStrictlyIncreasing vertices.now }
+    ensures { Writes out.old.items out.new.items (spelled (feedback_lines graph.now vertices.now)) result }
+{
+    put_head(out, b"feedback", b"size", vertices.len())?;
+    put_listed(out, b"vertices", graph, vertices)?;
     put(out, b"end\n")
 }

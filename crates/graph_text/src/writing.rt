@@ -2,7 +2,7 @@
 
 ghost use Rattle.std.specs.Prelude.{◌≡◌, ◌<◌, ◌+◌, ◌∷◌, ◌++◌, map, length};
 ghost use Rattle.std.specs.List.{flat_map};
-ghost use Rattle.graph_text.specs.Spelled.{at_words, dart_word, edge_words, listed_words, name_at, AreVertices};
+ghost use Rattle.graph_text.specs.Spelled.{at_words, dart_path_words, dart_word, edge_words, listed_words, name_at, AreVertices};
 ghost use Rattle.text_forms.specs.Spelling.{counted_words};
 ghost use Rattle.text_forms.specs.Writes.{Writes};
 ghost use Rattle.line_lexer.specs.Words.{line_text};
@@ -94,6 +94,15 @@ pub fn put_darts_at(out: &mut Vec<u8>, name: &[u8], darts: &[u32]) -> Result<(),
 {
     put(out, b"at ")?;
     put(out, name)?;
+    put_darts(out, darts)?;
+    put(out, b"\n")
+}
+
+/// Puts the line of a path of darts last.
+pub fn put_dart_path(out: &mut Vec<u8>, darts: &[u32]) -> Result<(), AllocError>
+    ensures { Writes out.old.items out.new.items (line_text (dart_path_words darts.now)) result }
+{
+    put(out, b"path")?;
     put_darts(out, darts)?;
     put(out, b"\n")
 }

@@ -27,9 +27,10 @@ use Rattle.parity_program.specs.Inputs.Input.{of_graph, posed}
 use Rattle.parity_program.specs.Replies.{IsConversion, IsOffsetOf, conversion_reply, offset_line, order_for}
 use Rattle.parity_program.specs.Shown.{HasFewClasses}
 use Rattle.parity_program.specs.declared.command.Command.TheVariants.{OfText}
+use Rattle.parity_program.specs.declared.command.Convertible.{Convertible}
+use Rattle.parity_program.specs.declared.command.Convertible.TheVariants.{Matching, Cactus, PathFamily, Rotation}
 use Rattle.parity_program.specs.declared.command.GraphCommand.TheVariants.{Convert}
-use Rattle.parity_program.specs.declared.command.GraphObject.{GraphObject}
-use Rattle.parity_program.specs.declared.command.GraphObject.TheVariants.{Matching, Cactus, PathFamily, Rotation}
+use Rattle.parity_program.specs.declared.command.GraphObject.TheVariants.{Converted}
 use Rattle.parity_program.specs.declared.command.ProblemCommand.TheVariants.{Solve}
 use Rattle.parity_program.specs.declared.command.TextCommand.TheVariants.{OverGraph, OverProblem}
 use Rattle.parity_text.proofs.ReadAgain.{read_at}
@@ -112,8 +113,8 @@ module _ (g : NamedGraph) (named : IsNamedGraph g) (slopes : HasFewClasses g) (f
       }
 
 -- of the object in a graph that is read
-conversion_within : Limits → ClassLimits → (object : GraphObject) (g : NamedGraph) (p : ParityProblem) (last : ℕ) (text rest : List Line)
-    → graph_for object last text ≡ Ok (g, rest) → IsConversion object g p → IsWithinLimits (scalars_of (order_for object)) p
+conversion_within : Limits → ClassLimits → (object : Convertible) (g : NamedGraph) (p : ParityProblem) (last : ℕ) (text rest : List Line)
+    → graph_for (Converted object) last text ≡ Ok (g, rest) → IsConversion object g p → IsWithinLimits (scalars_of (order_for object)) p
 conversion_within limits classes Matching g p last text rest e is =
     let l = limits 128 last text rest g e in
     subst (IsWithinLimits two) (sym is) (matching_within g l.1 l.2)
@@ -125,7 +126,7 @@ conversion_within limits classes Cactus g p last text rest e is =
     subst (IsWithinLimits two) (sym is.problem) (cactus_within g is.triples l.1 (omega (arith, many, few)))
 conversion_within limits classes PathFamily g p last text rest e is =
     let l = limits 64 last text rest g e in
-    let slopes = few_classes limits classes PathFamily last text rest g e in
+    let slopes = few_classes limits classes (Converted PathFamily) last text rest g e in
     subst (IsWithinLimits (scalars_of 251)) (sym is) (paths_within g l.0 slopes l.1 l.2)
 conversion_within limits classes Rotation g p last text rest e is =
     let f = few_cycles g last rest (graph 128 last text) e in
@@ -133,7 +134,7 @@ conversion_within limits classes Rotation g p last text rest e is =
     pairs_within (length g.names) g.ends p (In-all _ g.ends l.0.within) is f.1.0 f.1.1
 
 -- the offset has few digits
-few_offset : (object : GraphObject) (g : NamedGraph) (offset : ℕ) → length g.names ≤ 128 → IsOffsetOf object g offset → offset ≤ 128
+few_offset : (object : Convertible) (g : NamedGraph) (offset : ℕ) → length g.names ≤ 128 → IsOffsetOf object g offset → offset ≤ 128
 few_offset Matching g offset few is = omega (arith, is)
 few_offset Cactus g offset few is = omega (arith, is)
 few_offset Rotation g offset few is = omega (arith, is)
@@ -156,7 +157,7 @@ module _ (q offset : ℕ) (p : ParityProblem) (within : IsWithinLimits (scalars_
       ∙ read_at (scalars_of q) p within posed last 2 in
       rw fits (ap accepted read)
 
-pub solvable : Limits → ClassLimits → (object : GraphObject) (bytes : List ℕ) (g : NamedGraph) (p : ParityProblem) (offset : ℕ)
+pub solvable : Limits → ClassLimits → (object : Convertible) (bytes : List ℕ) (g : NamedGraph) (p : ParityProblem) (offset : ℕ)
     → reading (OfText (OverGraph (Convert object))) bytes ≡ Ok (of_graph (Convert object) g)
     → IsConversion object g p → IsOffsetOf object g offset
     → reading (OfText (OverProblem Solve)) (conversion_reply (order_for object) offset p).text ≡ Ok (posed (order_for object) p)
@@ -164,7 +165,7 @@ solvable limits classes object bytes g p offset e is offset_is =
     let r = graph_read object bytes g e in
     let last : ℕ = length (lines bytes) in
     let text : List Line = lines_from 1 bytes in
-    let behind = graph_behind object last text r.0 g r.1 in
-    let few = (limits (most_vertices object) last text behind.0 g behind.1).1 in
+    let behind = graph_behind (Converted object) last text r.0 g r.1 in
+    let few = (limits (most_vertices (Converted object)) last text behind.0 g behind.1).1 in
     read_text (order_for object) offset p (conversion_within limits classes object g p last text r.0 r.1 is)
-    (few_offset object g offset (omega (arith, few, no_more_than object)) offset_is)
+    (few_offset object g offset (omega (arith, few, no_more_than (Converted object))) offset_is)

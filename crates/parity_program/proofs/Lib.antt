@@ -5,11 +5,16 @@ pub mod Written
 pub mod Corners
 pub mod CountedTriangles
 pub mod CountedPairs
+pub mod FirstNumbers
 pub mod FirstApart
+pub mod FirstNotCubic
+pub mod Checks
 pub mod PairProblems
 pub mod OffsetLine
 pub mod GraphsFor
 pub mod PathsInGraphs
+pub mod EdgePaths
+pub mod FeedbackSets
 pub mod Conversions
 pub mod GeneratedTexts
 pub mod SampleLines

@@ -18,13 +18,14 @@ use Rattle.parity_program.specs.Replies.{ReplyText, IsReply, verdict_status}
 use Rattle.parity_program.specs.Shown.{RepliesTo, RepliesOrRefuses, IsNoByteLimit, IsWritten, shown, status_of_read}
 use Rattle.parity_program.specs.declared.command.Command.{Command}
 use Rattle.parity_program.specs.declared.command.Command.TheVariants.{OfText}
+use Rattle.parity_program.specs.declared.command.Convertible.TheVariants.{Matching, Cactus, PathFamily, Rotation}
 use Rattle.parity_program.specs.declared.command.GraphCommand.TheVariants.{Find, Convert}
-use Rattle.parity_program.specs.declared.command.GraphObject.TheVariants.{Matching, Cactus, PathFamily, Rotation}
+use Rattle.parity_program.specs.declared.command.GraphObject.TheVariants.{Converted, ForestPairs, SparePairs, EdgePaths, FeedbackSet}
 use Rattle.parity_program.specs.declared.command.TextCommand.{TextCommand}
 use Rattle.parity_program.specs.declared.reply.Reply.{Reply}
 use Rattle.parity_program.specs.declared.status.Status.{Status}
-use Rattle.parity_program.specs.declared.status.Status.TheVariants.{Done, No, Usage, BadText, Limit, NotConnected, ReadFault, WriteFault}
-use Rattle.parity_program.specs.declared.status.Status.TheVariants.{OutOfMemory}
+use Rattle.parity_program.specs.declared.status.Status.TheVariants.{Done, No, Usage, BadText, Limit, NotConnected, NotCubic}
+use Rattle.parity_program.specs.declared.status.Status.TheVariants.{ReadFault, WriteFault, OutOfMemory}
 use Rattle.parity_program.proofs.Refusals.{IsRefusal, refuses_only}
 use Rattle.text_io.specs.Counts.{Rose}
 use Rattle.text_io.specs.Told.{AppendsProperPrefix}
@@ -75,6 +76,7 @@ of_all_read command left bytes (Err status) whole few (inr refused) =
     refuses (BadText line kind) h = h
     refuses (Limit what found) h = h
     refuses (NotConnected vertex) h = h
+    refuses (NotCubic vertex) h = h
     refuses WriteFault h = h
 
 -- bytes that can't be had
@@ -117,6 +119,7 @@ within before now No kind h = h
 within before now Usage kind h = h
 within before now (BadText line k) kind h = h
 within before now (NotConnected vertex) kind h = h
+within before now (NotCubic vertex) kind h = h
 within before now ReadFault kind h = h
 within before now WriteFault kind h = h
 within before now OutOfMemory kind h = h
@@ -136,6 +139,7 @@ refused_outcome command left old WriteFault h = absurd (refuses_only command lef
 refused_outcome command left old (BadText line kind) h = (h, keeps-same old)
 refused_outcome command left old (Limit what found) h = (h, keeps-same old)
 refused_outcome command left old (NotConnected vertex) h = (h, keeps-same old)
+refused_outcome command left old (NotCubic vertex) h = (h, keeps-same old)
 refused_outcome command left old ReadFault h = (h, keeps-same old)
 refused_outcome command left old OutOfMemory h = (h, keeps-same old)
 
@@ -149,6 +153,7 @@ refused_end command left No h = absurd h
 refused_end command left WriteFault h = absurd h
 refused_end command left Usage h = absurd h
 refused_end command left (NotConnected vertex) h = tt
+refused_end command left (NotCubic vertex) h = tt
 
 pub refused_write : (count : ℕ) (status : Status) → IsRefusal status → HasWriteCause count count status
 refused_write count (BadText line kind) h = refl
@@ -160,6 +165,7 @@ refused_write count No h = absurd h
 refused_write count WriteFault h = absurd h
 refused_write count Usage h = absurd h
 refused_write count (NotConnected vertex) h = refl
+refused_write count (NotCubic vertex) h = refl
 
 -- ---- a reply that is written
 
@@ -181,10 +187,14 @@ ends (chosen q p M) reply h = improvement h.0 (ap (λ r. r.status) h.2)
     improvement none e = inl e
     improvement (dependent cs) e = inr e
 ends (posed q p) reply h = inl (ap (λ r. r.status) h.4)
-ends (of_graph (Find Matching) g) reply h = inl (ap (λ r. r.status) h.2)
-ends (of_graph (Find Cactus) g) reply h = inl (ap (λ r. r.status) h.3)
-ends (of_graph (Find PathFamily) g) reply h = inl (ap (λ r. r.status) h.3)
-ends (of_graph (Find Rotation) g) reply h = inl (ap (λ r. r.status) h.4)
+ends (of_graph (Find (Converted Matching)) g) reply h = inl (ap (λ r. r.status) h.2)
+ends (of_graph (Find (Converted Cactus)) g) reply h = inl (ap (λ r. r.status) h.3)
+ends (of_graph (Find (Converted PathFamily)) g) reply h = inl (ap (λ r. r.status) h.3)
+ends (of_graph (Find (Converted Rotation)) g) reply h = inl (ap (λ r. r.status) h.4)
+ends (of_graph (Find ForestPairs) g) reply h = inl (ap (λ r. r.status) h.2)
+ends (of_graph (Find SparePairs) g) reply h = inl (ap (λ r. r.status) h.2)
+ends (of_graph (Find EdgePaths) g) reply h = inl (ap (λ r. r.status) h.3)
+ends (of_graph (Find FeedbackSet) g) reply h = inl (ap (λ r. r.status) h.2)
 ends (of_graph (Convert object) g) reply h = inl (ap (λ r. r.status) h.4)
 ends (generated n) reply h = inl (ap (λ r. r.status) h.2)
 ends (sampled n) reply h = inl (ap (λ r. r.status) h.4)
@@ -257,3 +267,4 @@ module _ (command : Command) (left old new : Option (List ℕ)) (bytes : List �
   is_answered (BadText line kind) rb rn wb wn o r w nr nw = absurd (not_refused (BadText line kind) o.0)
   is_answered (Limit what found) rb rn wb wn o r w nr nw = absurd (not_refused (Limit what found) o.0)
   is_answered (NotConnected vertex) rb rn wb wn o r w nr nw = absurd (not_refused (NotConnected vertex) o.0)
+  is_answered (NotCubic vertex) rb rn wb wn o r w nr nw = absurd (not_refused (NotCubic vertex) o.0)

@@ -7,20 +7,23 @@ use Rattle.line_lexer.specs.Lines.{Line}
 use Rattle.line_lexer.specs.declared.refusal.Counted.TheVariants as counted
 use Rattle.line_lexer.specs.declared.refusal.TextRefusal.{TextRefusal}
 use Rattle.line_lexer.specs.declared.refusal.TextRefusal.TheVariants as refusal
-use Rattle.parity_program.specs.Inputs.{Input, accepted, admitted, in_connected, numbered, object_of, reading, status_of, told_to, unless_apart}
+use Rattle.parity_program.specs.Inputs.{Input, accepted, admitted, unless_unfit, numbered, object_of, reading, status_of, told_to}
+use Rattle.parity_program.specs.Inputs.{then_check, unless_apart, unless_not_cubic}
 use Rattle.parity_program.specs.Inputs.Input.{answered, chosen, posed, of_graph, generated, sampled}
 use Rattle.line_lexer.specs.Seen.{most_bytes}
 use Rattle.parity_program.specs.Outcome.{OfTold, Refuses}
 use Rattle.parity_program.specs.Shown.{IsNoByteLimit}
 use Rattle.parity_program.specs.Connectedness.{first_apart}
+use Rattle.parity_program.specs.CubicVertices.{first_not_cubic}
 use Rattle.parity_program.specs.declared.command.Command.{Command}
+use Rattle.parity_program.specs.declared.command.Convertible.TheVariants.{Matching, Cactus, PathFamily, Rotation}
 use Rattle.parity_program.specs.declared.command.GraphObject.{GraphObject}
-use Rattle.parity_program.specs.declared.command.GraphObject.TheVariants.{Matching, Cactus, PathFamily, Rotation}
+use Rattle.parity_program.specs.declared.command.GraphObject.TheVariants.{Converted, ForestPairs, SparePairs, EdgePaths, FeedbackSet}
 use Rattle.parity_program.specs.declared.command.NumberCommand.{NumberCommand}
 use Rattle.parity_program.specs.declared.command.NumberCommand.TheVariants.{Generate, Sample}
 use Rattle.parity_program.specs.declared.status.Status.{Status}
-use Rattle.parity_program.specs.declared.status.Status.TheVariants.{Done, No, Usage, BadText, Limit, NotConnected, ReadFault, WriteFault}
-use Rattle.parity_program.specs.declared.status.Status.TheVariants.{OutOfMemory}
+use Rattle.parity_program.specs.declared.status.Status.TheVariants.{Done, No, Usage, BadText, Limit, NotConnected, NotCubic}
+use Rattle.parity_program.specs.declared.status.Status.TheVariants.{ReadFault, WriteFault, OutOfMemory}
 use Rattle.text_forms.specs.Gives.{Fails, IsOfText}
 
 -- what refuses a part refuses the whole
@@ -48,6 +51,7 @@ abbrev pub IsRefusal : Status → Type 0
 IsRefusal (BadText line kind) = Unit {0}
 IsRefusal (Limit what found) = Unit {0}
 IsRefusal (NotConnected vertex) = Unit {0}
+IsRefusal (NotCubic vertex) = Unit {0}
 IsRefusal ReadFault = Unit {0}
 IsRefusal OutOfMemory = Unit {0}
 IsRefusal status = ⊥
@@ -61,11 +65,23 @@ of_apart : (o : Option ℕ) (x : Input) (status : Status) → unless_apart o x �
 of_apart None x status e = absurd (cc (e))
 of_apart (Some v) x status e = let same : NotConnected (v + 1) ≡ status = cc (e) in subst IsRefusal same tt
 
-of_object : (object : GraphObject) (g : NamedGraph) (x : Input) (status : Status) → in_connected object g x ≡ Err status → IsRefusal status
-of_object Matching g x status e = absurd (cc (e))
-of_object Cactus g x status e = absurd (cc (e))
-of_object PathFamily g x status e = absurd (cc (e))
-of_object Rotation g x status e = of_apart (first_apart (length g.names) g.ends) x status e
+of_not_cubic : (o : Option ℕ) (x : Input) (status : Status) → unless_not_cubic o x ≡ Err status → IsRefusal status
+of_not_cubic None x status e = absurd (cc (e))
+of_not_cubic (Some v) x status e = let same : NotCubic (v + 1) ≡ status = cc (e) in subst IsRefusal same tt
+
+of_both : (o c : Option ℕ) (x : Input) (status : Status) → then_check (unless_not_cubic c) (unless_apart o x) ≡ Err status → IsRefusal status
+of_both None c x status e = of_not_cubic c x status e
+of_both (Some v) c x status e = of_apart (Some v) x status e
+
+of_object : (object : GraphObject) (g : NamedGraph) (x : Input) (status : Status) → unless_unfit object g x ≡ Err status → IsRefusal status
+of_object (Converted Matching) g x status e = absurd (cc (e))
+of_object (Converted Cactus) g x status e = absurd (cc (e))
+of_object (Converted PathFamily) g x status e = absurd (cc (e))
+of_object (Converted Rotation) g x status e = of_apart (first_apart (length g.names) g.ends) x status e
+of_object ForestPairs g x status e = absurd (cc (e))
+of_object SparePairs g x status e = of_apart (first_apart (length g.names) g.ends) x status e
+of_object EdgePaths g x status e = absurd (cc (e))
+of_object FeedbackSet g x status e = of_both (first_apart (length g.names) g.ends) (first_not_cubic (length g.names) g.ends) x status e
 
 -- nor is an input refused otherwise than for its graph
 of_input : (x : Input) (status : Status) → admitted x ≡ Err status → IsRefusal status
@@ -98,6 +114,7 @@ refuses_only command left Usage h = of_told command (told_to command left) Usage
 refuses_only command left (BadText line kind) h = tt
 refuses_only command left (Limit what found) h = tt
 refuses_only command left (NotConnected vertex) h = tt
+refuses_only command left (NotCubic vertex) h = tt
 refuses_only command left ReadFault h = tt
 refuses_only command left WriteFault h = of_told command (told_to command left) WriteFault h
 refuses_only command left OutOfMemory h = tt

@@ -3,10 +3,12 @@ use Rattle.std.specs.Prelude.{◌≡◌, ◌≢◌, ℕ, ◌^◌, ◌<◌, List,
 use Rattle.std.specs.Fmt.{decimal}
 use Rattle.parity_program.specs.declared.command.Command.{Command}
 use Rattle.parity_program.specs.declared.command.Command.TheVariants.{OfText, OfNumber}
+use Rattle.parity_program.specs.declared.command.Convertible.{Convertible}
+use Rattle.parity_program.specs.declared.command.Convertible.TheVariants.{Matching, Cactus, PathFamily, Rotation}
 use Rattle.parity_program.specs.declared.command.GraphCommand.{GraphCommand}
 use Rattle.parity_program.specs.declared.command.GraphCommand.TheVariants.{Find, Convert}
 use Rattle.parity_program.specs.declared.command.GraphObject.{GraphObject}
-use Rattle.parity_program.specs.declared.command.GraphObject.TheVariants.{Matching, Cactus, PathFamily, Rotation}
+use Rattle.parity_program.specs.declared.command.GraphObject.TheVariants.{Converted, ForestPairs, SparePairs, EdgePaths, FeedbackSet}
 use Rattle.parity_program.specs.declared.command.NumberCommand.{NumberCommand}
 use Rattle.parity_program.specs.declared.command.NumberCommand.TheVariants.{Generate, Sample}
 use Rattle.parity_program.specs.declared.command.ProblemCommand.{ProblemCommand}
@@ -24,17 +26,25 @@ problem_word Check = codes "check"
 problem_word Improve = codes "improve"
 problem_word Solve = codes "solve"
 
+-- the word of what is looked for in a graph by a problem that can be written
+abbrev pub convertible_word : Convertible → List ℕ
+convertible_word Matching = codes "matching"
+convertible_word Cactus = codes "cactus"
+convertible_word PathFamily = codes "spaths"
+convertible_word Rotation = codes "genus"
+
 -- the word of what is looked for in a graph
 abbrev pub object_word : GraphObject → List ℕ
-object_word Matching = codes "matching"
-object_word Cactus = codes "cactus"
-object_word PathFamily = codes "spaths"
-object_word Rotation = codes "genus"
+object_word (Converted object) = convertible_word object
+object_word ForestPairs = codes "forestpairs"
+object_word SparePairs = codes "sparepairs"
+object_word EdgePaths = codes "epaths"
+object_word FeedbackSet = codes "feedback"
 
 -- the words of a command over a graph: the object's word, or `convert` before it
 abbrev pub graph_words : GraphCommand → List (List ℕ)
 graph_words (Find object) = object_word object ∷ []
-graph_words (Convert object) = codes "convert" ∷ object_word object ∷ []
+graph_words (Convert object) = codes "convert" ∷ convertible_word object ∷ []
 
 -- the words of a command that reads a text
 abbrev pub text_words : TextCommand → List (List ℕ)

@@ -4,20 +4,22 @@ use Rattle.graph_core.specs.NamedGraphs.{NamedGraph}
 use Rattle.graph_text.specs.Texts.{graph}
 use Rattle.line_lexer.specs.Lines.{Line}
 use Rattle.line_lexer.specs.Seen.{most_bytes}
-use Rattle.line_lexer.specs.declared.refusal.Counted.TheVariants.{Bytes, Triangles, Pairs, CycleRank}
+use Rattle.line_lexer.specs.declared.refusal.Counted.TheVariants.{Bytes, Edges, Triangles, Pairs, CycleRank}
 use Rattle.line_lexer.specs.declared.refusal.TextRefusal.{TextRefusal}
 use Rattle.line_lexer.specs.declared.refusal.TextRefusal.TheVariants as refusal
 use Rattle.parity_lines.specs.Problems.{ParityProblem}
 use Rattle.parity_program.specs.AdjacentPairs.{cycle_rank, pair_count}
 use Rattle.parity_program.specs.Commands.{reads_source}
 use Rattle.parity_program.specs.Connectedness.{first_apart}
+use Rattle.parity_program.specs.CubicVertices.{first_not_cubic}
 use Rattle.parity_program.specs.Triangles.{triangle_count}
 use Rattle.parity_program.specs.declared.command.Command.{Command}
 use Rattle.parity_program.specs.declared.command.Command.TheVariants.{OfText, OfNumber}
+use Rattle.parity_program.specs.declared.command.Convertible.TheVariants.{Matching, Cactus, PathFamily, Rotation}
 use Rattle.parity_program.specs.declared.command.GraphCommand.{GraphCommand}
 use Rattle.parity_program.specs.declared.command.GraphCommand.TheVariants.{Find, Convert}
 use Rattle.parity_program.specs.declared.command.GraphObject.{GraphObject}
-use Rattle.parity_program.specs.declared.command.GraphObject.TheVariants.{Matching, Cactus, PathFamily, Rotation}
+use Rattle.parity_program.specs.declared.command.GraphObject.TheVariants.{Converted, ForestPairs, SparePairs, EdgePaths, FeedbackSet}
 use Rattle.parity_program.specs.declared.command.NumberCommand.{NumberCommand}
 use Rattle.parity_program.specs.declared.command.NumberCommand.TheVariants.{Generate, Sample}
 use Rattle.parity_program.specs.declared.command.ProblemCommand.{ProblemCommand}
@@ -25,7 +27,7 @@ use Rattle.parity_program.specs.declared.command.ProblemCommand.TheVariants.{Che
 use Rattle.parity_program.specs.declared.command.TextCommand.{TextCommand}
 use Rattle.parity_program.specs.declared.command.TextCommand.TheVariants.{OverProblem, OverGraph}
 use Rattle.parity_program.specs.declared.status.Status.{Status}
-use Rattle.parity_program.specs.declared.status.Status.TheVariants.{BadText, Limit, NotConnected, OutOfMemory}
+use Rattle.parity_program.specs.declared.status.Status.TheVariants.{BadText, Limit, NotConnected, NotCubic, OutOfMemory}
 use Rattle.parity_text.specs.Files.{problem_with}
 use Rattle.parity_text.specs.Texts.{answer, choice}
 use Rattle.parity_text.specs.Values.{AnswerValue}
@@ -53,12 +55,16 @@ behind Improve q p = do
 behind Solve q p = give (posed q p)
 
 -- how many vertices a graph may have in which the object is looked for, how many triangles, how many pairs of edges with a common end,
--- and which cycle rank
+-- which cycle rank, and how many edges where edge-disjoint paths are looked for
 abbrev pub most_vertices : GraphObject → ℕ
-most_vertices Matching = 128
-most_vertices Cactus = 128
-most_vertices PathFamily = 64
-most_vertices Rotation = 128
+most_vertices (Converted Matching) = 128
+most_vertices (Converted Cactus) = 128
+most_vertices (Converted PathFamily) = 64
+most_vertices (Converted Rotation) = 128
+most_vertices ForestPairs = 128
+most_vertices SparePairs = 128
+most_vertices EdgePaths = 128
+most_vertices FeedbackSet = 128
 
 abbrev pub most_triangles : ℕ
 most_triangles = 2048
@@ -68,6 +74,9 @@ most_pairs = 2048
 
 abbrev pub most_cycle_rank : ℕ
 most_cycle_rank = 128
+
+abbrev pub most_edges : ℕ
+most_edges = 32
 
 -- the graph, if it has no more triangles than it may
 abbrev pub with_few_triangles : {T : Type 0} → NamedGraph → Reads T NamedGraph
@@ -91,21 +100,33 @@ with_few_cycles g = do
   h ← with_few_pairs g
   with_small_rank h
 
+-- the graph, if it has no more edges than it may
+abbrev pub with_few_edges : {T : Type 0} → NamedGraph → Reads T NamedGraph
+with_few_edges g = if nat_lt most_edges (length g.ends) then above Edges (length g.ends) else give g
+
 -- a graph in which the object is looked for, within the limits
 abbrev pub graph_for : GraphObject → Form NamedGraph
-graph_for Matching = graph (most_vertices Matching)
-graph_for Cactus = do
-  g ← graph (most_vertices Cactus)
+graph_for (Converted Matching) = graph (most_vertices (Converted Matching))
+graph_for (Converted Cactus) = do
+  g ← graph (most_vertices (Converted Cactus))
   with_few_triangles g
-graph_for PathFamily = graph (most_vertices PathFamily)
-graph_for Rotation = do
-  g ← graph (most_vertices Rotation)
+graph_for (Converted PathFamily) = graph (most_vertices (Converted PathFamily))
+graph_for (Converted Rotation) = do
+  g ← graph (most_vertices (Converted Rotation))
   with_few_cycles g
+graph_for ForestPairs = graph (most_vertices ForestPairs)
+graph_for SparePairs = do
+  g ← graph (most_vertices SparePairs)
+  with_small_rank g
+graph_for EdgePaths = do
+  g ← graph (most_vertices EdgePaths)
+  with_few_edges g
+graph_for FeedbackSet = graph (most_vertices FeedbackSet)
 
 -- what a command over a graph is about
 abbrev pub object_of : GraphCommand → GraphObject
 object_of (Find object) = object
-object_of (Convert object) = object
+object_of (Convert object) = Converted object
 
 -- what a command of a number is about
 abbrev pub numbered : NumberCommand → ℕ → Input
@@ -138,19 +159,34 @@ abbrev pub unless_apart : Option ℕ → Input → Result Input Status
 unless_apart None x = Ok x
 unless_apart (Some v) x = Err (NotConnected (v + 1))
 
--- a rotation is looked for in connected graphs alone
-abbrev pub in_connected : GraphObject → NamedGraph → Input → Result Input Status
-in_connected Matching g x = Ok x
-in_connected Cactus g x = Ok x
-in_connected PathFamily g x = Ok x
-in_connected Rotation g x = unless_apart (first_apart (length g.names) g.ends) x
+-- and but for a vertex at which the graph isn't cubic and simple
+abbrev pub unless_not_cubic : Option ℕ → Input → Result Input Status
+unless_not_cubic None x = Ok x
+unless_not_cubic (Some v) x = Err (NotCubic (v + 1))
 
--- what was read, if its graph is connected where it must be
+-- what a further check says of an input that was let pass
+abbrev pub then_check : (Input → Result Input Status) → Result Input Status → Result Input Status
+then_check check (Ok x) = check x
+then_check check (Err status) = Err status
+
+-- a rotation, spare pairs and a feedback set are looked for in connected graphs alone, and the last in cubic simple ones
+abbrev pub unless_unfit : GraphObject → NamedGraph → Input → Result Input Status
+unless_unfit (Converted Matching) g x = Ok x
+unless_unfit (Converted Cactus) g x = Ok x
+unless_unfit (Converted PathFamily) g x = Ok x
+unless_unfit (Converted Rotation) g x = unless_apart (first_apart (length g.names) g.ends) x
+unless_unfit ForestPairs g x = Ok x
+unless_unfit SparePairs g x = unless_apart (first_apart (length g.names) g.ends) x
+unless_unfit EdgePaths g x = Ok x
+unless_unfit FeedbackSet g x =
+    then_check (unless_not_cubic (first_not_cubic (length g.names) g.ends)) (unless_apart (first_apart (length g.names) g.ends) x)
+
+-- what was read, if its graph is fit for what is looked for in it
 abbrev pub admitted : Input → Result Input Status
 admitted (answered q p a) = Ok (answered q p a)
 admitted (chosen q p set) = Ok (chosen q p set)
 admitted (posed q p) = Ok (posed q p)
-admitted (of_graph command g) = in_connected (object_of command) g (of_graph command g)
+admitted (of_graph command g) = unless_unfit (object_of command) g (of_graph command g)
 admitted (generated n) = Ok (generated n)
 admitted (sampled n) = Ok (sampled n)
 

@@ -3,6 +3,7 @@ pub mod Commands
 pub mod Triangles
 pub mod AdjacentPairs
 pub mod Connectedness
+pub mod CubicVertices
 pub mod Inputs
 pub mod Improvements
 pub mod Replies

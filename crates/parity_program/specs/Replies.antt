@@ -4,13 +4,18 @@ use Rattle.std.specs.Fmt.{decimal}
 use Rattle.cert_check.specs.Verdicts.{IsVerdictOn}
 use Rattle.cert_check.specs.declared.verdicts.Verdict.{Verdict}
 use Rattle.cert_check.specs.declared.verdicts.Verdict.TheVariants.{Yes, Dependent, KernelDependent, PartsMissing, PartsTwice, BoundOff}
+use Rattle.cubic_front.specs.FeedbackVertexSets.{IsLeastFeedbackVertexSet}
 use Rattle.edge_lists.specs.EdgeNumbers.{edge_numbers}
+use Rattle.edge_path_theory.specs.Darts.{IsLargestEdgePathFamily}
+use Rattle.edge_paths_front.specs.Replies.{AreOrderedDarts}
+use Rattle.forest_pairs_front.specs.ListedPairs.{ArePairForest, AreSparePairs, IsLongest}
+use Rattle.forest_pairs_front.specs.Spelled.{pairs_lines}
 use Rattle.generator.specs.GeneratedProblems.{IsGeneratedProblem}
 use Rattle.genus_front.specs.GenusProblems.{IsGenusProblem}
 use Rattle.graph_core.specs.NamedGraphs.{NamedGraph}
 use Rattle.graph_problems.specs.GraphLines.{matching_problem, IsCactusProblem}
 use Rattle.graph_problems.specs.PathLines.{paths_problem}
-use Rattle.graph_text.specs.Spelled.{matching_lines, cactus_lines, paths_lines, rotation_lines}
+use Rattle.graph_text.specs.Spelled.{matching_lines, cactus_lines, paths_lines, rotation_lines, edge_paths_lines, feedback_lines}
 use Rattle.graph_theory.specs.Cacti.{corners, IsLargestCactus, IsLexicographic}
 use Rattle.graph_theory.specs.Matchings.{IsLargestMatching}
 use Rattle.graph_theory.specs.Walks.{edge_at}
@@ -23,10 +28,12 @@ use Rattle.parity_lines.specs.Problems.{ParityProblem}
 use Rattle.parity_program.specs.Improvements.{Improvement, TellsImprovement, improvement_lines, improvement_status}
 use Rattle.parity_program.specs.Inputs.{Input}
 use Rattle.parity_program.specs.Inputs.Input.{answered, chosen, posed, of_graph, generated, sampled}
+use Rattle.parity_program.specs.declared.command.Convertible.{Convertible}
+use Rattle.parity_program.specs.declared.command.Convertible.TheVariants.{Matching, Cactus, PathFamily, Rotation}
 use Rattle.parity_program.specs.declared.command.GraphCommand.{GraphCommand}
 use Rattle.parity_program.specs.declared.command.GraphCommand.TheVariants.{Find, Convert}
 use Rattle.parity_program.specs.declared.command.GraphObject.{GraphObject}
-use Rattle.parity_program.specs.declared.command.GraphObject.TheVariants.{Matching, Cactus, PathFamily, Rotation}
+use Rattle.parity_program.specs.declared.command.GraphObject.TheVariants.{Converted, ForestPairs, SparePairs, EdgePaths, FeedbackSet}
 use Rattle.parity_program.specs.declared.status.Status.{Status}
 use Rattle.parity_program.specs.declared.status.Status.TheVariants.{Done, No}
 use Rattle.path_theory.specs.Classes.{class_of, is_terminal}
@@ -124,25 +131,34 @@ pub record IsBestRotation (g : NamedGraph) (L : List (List ℕ)) (genus faces : 
 
 -- the lines of an object that is largest in the graph
 abbrev pub IsFoundReply : GraphObject → NamedGraph → ReplyText → Type 0
-IsFoundReply Matching g reply = (F : List ℕ) × IsLargestMatching g.ends F × (reply ≡ lines_reply (matching_lines g F))
-IsFoundReply Cactus g reply =
+IsFoundReply (Converted Matching) g reply = (F : List ℕ) × IsLargestMatching g.ends F × (reply ≡ lines_reply (matching_lines g F))
+IsFoundReply (Converted Cactus) g reply =
     (Ts : List (ℕ × ℕ × ℕ)) × IsLargestCactus g.ends Ts × IsLexicographic Ts × (reply ≡ lines_reply (cactus_lines g (map corners Ts)))
-IsFoundReply PathFamily g reply =
+IsFoundReply (Converted PathFamily) g reply =
     (paths : List (List ℕ)) × IsLargestPathFamily g.ends (is_terminal g.classes) (class_of g.classes) paths × AreOrdered paths
     × (reply ≡ lines_reply (paths_lines g paths))
-IsFoundReply Rotation g reply =
+IsFoundReply (Converted Rotation) g reply =
     (L : List (List ℕ)) × (genus : ℕ) × (faces : ℕ) × IsBestRotation g L genus faces
     × (reply ≡ lines_reply (rotation_lines g L genus faces))
+IsFoundReply ForestPairs g reply = (M : List ℕ) × IsLongest (ArePairForest g.ends) M × (reply ≡ lines_reply (pairs_lines M))
+IsFoundReply SparePairs g reply =
+    (M : List ℕ) × IsLongest (AreSparePairs (length g.names) g.ends) M × (reply ≡ lines_reply (pairs_lines M))
+IsFoundReply EdgePaths g reply =
+    (paths : List (List ℕ))
+    × IsLargestEdgePathFamily (length g.ends) (edge_at g.ends) (is_terminal g.classes) (class_of g.classes) paths
+    × AreOrderedDarts (edge_at g.ends) paths × (reply ≡ lines_reply (edge_paths_lines paths))
+IsFoundReply FeedbackSet g reply =
+    (X : List ℕ) × IsLeastFeedbackVertexSet (length g.names) g.ends X × (reply ≡ lines_reply (feedback_lines g X))
 
 -- the order of the field over which the problem of the object is
-abbrev pub order_for : GraphObject → ℕ
+abbrev pub order_for : Convertible → ℕ
 order_for Matching = 2
 order_for Cactus = 2
 order_for PathFamily = 251
 order_for Rotation = 2
 
 -- the parity problem whose largest sets are the largest objects of the graph
-abbrev pub IsConversion : GraphObject → NamedGraph → ParityProblem → Type 0
+abbrev pub IsConversion : Convertible → NamedGraph → ParityProblem → Type 0
 IsConversion Matching g p = p ≡ matching_problem (scalars_of 2) (length g.names) g.ends
 IsConversion Cactus g p = IsCactusProblem (scalars_of 2) (length g.names) g.ends p
 IsConversion PathFamily g p =
@@ -150,7 +166,7 @@ IsConversion PathFamily g p =
 IsConversion Rotation g p = IsGenusProblem (scalars_of 2) g.ends p
 
 -- how much larger the largest sets of the problem are than the largest objects
-abbrev pub IsOffsetOf : GraphObject → NamedGraph → ℕ → Type 0
+abbrev pub IsOffsetOf : Convertible → NamedGraph → ℕ → Type 0
 IsOffsetOf Matching g offset = offset ≡ 0
 IsOffsetOf Cactus g offset = offset ≡ 0
 IsOffsetOf Rotation g offset = offset ≡ 0
@@ -165,7 +181,7 @@ abbrev pub conversion_reply : ℕ → ℕ → ParityProblem → ReplyText
 conversion_reply q offset p = record { text = offset_line offset ++ spelled (problem_lines q p); status = Done }
 
 -- to a graph: the text of its problem, behind the offset
-abbrev pub IsConversionReply : GraphObject → NamedGraph → ReplyText → Type 0
+abbrev pub IsConversionReply : Convertible → NamedGraph → ReplyText → Type 0
 IsConversionReply object g reply =
     (p : ParityProblem) × (offset : ℕ) × IsConversion object g p × IsOffsetOf object g offset
     × (reply ≡ conversion_reply (order_for object) offset p)

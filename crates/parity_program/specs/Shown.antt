@@ -1,6 +1,7 @@
 -- Words of the contracts of private functions alone: how replies of the code are seen, and what they say of what is read.
 use Rattle.std.specs.Prelude.{◌≡◌, ◌≢◌, ℕ, ◌+◌, ◌^◌, ◌<◌, ◌≤◌, ◌⊎◌, List, length, Option, None, Some, Result, Ok, Err, slice_index_or}
 use Rattle.std.specs.Io.KnownBytes.{Appends}
+use Rattle.cubic_front.specs.CubicGraphs.{IsCubic}
 use Rattle.edge_lists.specs.Connections.{IsConnected}
 use Rattle.edge_lists.specs.EdgeNumbers.{edge_numbers}
 use Rattle.graph_core.specs.NamedGraphs.{NamedGraph}
@@ -12,8 +13,9 @@ use Rattle.parity_program.specs.Inputs.{Input, accepted}
 use Rattle.parity_program.specs.Outcome.{Replies, Refuses, HasReadCause, HasByteCause}
 use Rattle.parity_program.specs.Replies.{ReplyText, IsReply}
 use Rattle.parity_program.specs.declared.command.Command.{Command}
+use Rattle.parity_program.specs.declared.command.Convertible.TheVariants.{Matching, Cactus, PathFamily, Rotation}
 use Rattle.parity_program.specs.declared.command.GraphObject.{GraphObject}
-use Rattle.parity_program.specs.declared.command.GraphObject.TheVariants.{Matching, Cactus, PathFamily, Rotation}
+use Rattle.parity_program.specs.declared.command.GraphObject.TheVariants.{Converted, ForestPairs, SparePairs, EdgePaths, FeedbackSet}
 use Rattle.parity_program.specs.declared.reply.Reply.{Reply}
 use Rattle.parity_program.specs.declared.status.Status.{Status}
 use Rattle.parity_program.specs.declared.status.Status.TheVariants.{Limit, ReadFault, WriteFault, OutOfMemory}
@@ -76,12 +78,26 @@ pub record IsConnectedGraph (g : NamedGraph) : Type 0 where
   pub connected : IsConnected (edge_at g.ends) (length g.names) (edge_numbers g.ends)
   pub few : length g.ends < 2 ^ 31
 
+-- the same, and it is cubic and simple
+pub record IsConnectedCubicGraph (g : NamedGraph) : Type 0 where
+  pub connected : IsConnectedGraph g
+  pub cubic : IsCubic (length g.names) g.ends
+
+-- there are few edges, and class numbers are numbers of elements of the field with 251
+pub record HasFewEdges (g : NamedGraph) : Type 0 where
+  pub few : length g.ends ≤ 32
+  pub classes : HasFewClasses g
+
 -- what a graph has in which the object is looked for
 abbrev pub Suits : GraphObject → NamedGraph → Type 0
-Suits Matching g = Unit {0}
-Suits Cactus g = Unit {0}
-Suits PathFamily g = HasFewClasses g
-Suits Rotation g = IsConnectedGraph g
+Suits (Converted Matching) g = Unit {0}
+Suits (Converted Cactus) g = Unit {0}
+Suits (Converted PathFamily) g = HasFewClasses g
+Suits (Converted Rotation) g = IsConnectedGraph g
+Suits ForestPairs g = Unit {0}
+Suits SparePairs g = IsConnectedGraph g
+Suits EdgePaths g = HasFewEdges g
+Suits FeedbackSet g = IsConnectedCubicGraph g
 
 -- a check lets an input pass, or refuses it with the status, unless memory ran out
 abbrev pub Admits : {Y : Type 0} → (Input → Result Input Status) → Result Y Status → Type 0

@@ -6,8 +6,8 @@ use Rattle.line_lexer.specs.declared.fault.TextFault.TheVariants as fault
 use Rattle.line_lexer.specs.declared.refusal.Counted.{Counted}
 use Rattle.line_lexer.specs.declared.refusal.Counted.TheVariants as counted
 use Rattle.parity_program.specs.declared.status.Status.{Status}
-use Rattle.parity_program.specs.declared.status.Status.TheVariants.{Done, No, Usage, BadText, Limit, NotConnected, ReadFault, WriteFault}
-use Rattle.parity_program.specs.declared.status.Status.TheVariants.{OutOfMemory}
+use Rattle.parity_program.specs.declared.status.Status.TheVariants.{Done, No, Usage, BadText, Limit, NotConnected, NotCubic}
+use Rattle.parity_program.specs.declared.status.Status.TheVariants.{ReadFault, WriteFault, OutOfMemory}
 
 abbrev pub code_of : Status → ℕ
 code_of Done = 0
@@ -16,6 +16,7 @@ code_of Usage = 2
 code_of (BadText line kind) = 3
 code_of (Limit what found) = 4
 code_of (NotConnected vertex) = 4
+code_of (NotCubic vertex) = 4
 code_of ReadFault = 5
 code_of WriteFault = 6
 code_of OutOfMemory = 7
@@ -56,6 +57,7 @@ status_text Usage = codes "usage"
 status_text (BadText line kind) = codes "bad text: line " ++ decimal line ++ codes ": " ++ fault_name kind
 status_text (Limit what found) = codes "limit: " ++ counted_name what ++ codes " " ++ decimal found
 status_text (NotConnected vertex) = codes "not connected: vertex " ++ decimal vertex
+status_text (NotCubic vertex) = codes "not cubic: vertex " ++ decimal vertex
 status_text ReadFault = codes "read fault"
 status_text WriteFault = codes "write fault"
 status_text OutOfMemory = codes "out of memory"

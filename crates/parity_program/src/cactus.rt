@@ -3,7 +3,8 @@
 ghost use Rattle.std.specs.Prelude.{IfOk};
 ghost use Rattle.parity_program.specs.Replies.{IsFoundReply};
 ghost use Rattle.parity_program.specs.Shown.{shown};
-ghost use Rattle.parity_program.specs.declared.command.GraphObject.TheVariants.{Cactus};
+ghost use Rattle.parity_program.specs.declared.command.Convertible.TheVariants.{Cactus};
+ghost use Rattle.parity_program.specs.declared.command.GraphObject.TheVariants.{Converted};
 
 use crate::reply::Reply;
 use crate::solver::solution;
@@ -14,7 +15,7 @@ use std::alloc::{AllocError, Global};
 
 /// The text of a largest cactus of the graph.
 pub fn cactus(alloc: Global, graph: &Graph) -> Result<Reply, AllocError>
-    ensures { IfOk result (λ reply. IsFoundReply Cactus graph.now (shown reply)) }
+    ensures { IfOk result (λ reply. IsFoundReply (Converted Cactus) graph.now (shown reply)) }
 {
     let _edges = graph.edges();
     let problem = to_parity(alloc, graph)?;

@@ -1,13 +1,14 @@
 //! The commands.
 
 ghost use Rattle.std.specs.Prelude.{◌≡◌, ◌≢◌, ℕ, ◌^◌, ◌<◌, [], ◌∷◌, IfSome, MatchOption, Some, codes};
+ghost use Rattle.parity_program.specs.declared.command.Convertible.{Convertible};
 ghost use Rattle.parity_program.specs.declared.command.GraphObject.{GraphObject};
 ghost use Rattle.parity_program.specs.declared.command.NumberCommand.{NumberCommand};
 ghost use Rattle.parity_program.specs.declared.command.ProblemCommand.{ProblemCommand};
 ghost use Rattle.std.specs.Fmt.{decimal};
 ghost use Rattle.std.specs.Str.{bytes_eq};
 ghost use Rattle.parity_program.specs.Inputs.{object_of};
-ghost use Rattle.parity_program.specs.Commands.{Named, words_of, problem_word, object_word, number_word};
+ghost use Rattle.parity_program.specs.Commands.{Named, words_of, problem_word, convertible_word, object_word, number_word};
 
 /// What the program is asked to do.
 #[derive(Clone, Copy, Debug, Drop, PartialEq, Eq)]
@@ -44,12 +45,27 @@ pub enum GraphCommand {
     /// Finds a largest object in it.
     Find(GraphObject),
     /// Writes the parity problem by which the object is found.
-    Convert(GraphObject),
+    Convert(Convertible),
 }
 
 /// What is looked for in a graph.
 #[derive(Clone, Copy, Debug, Drop, PartialEq, Eq)]
 pub enum GraphObject {
+    /// An object whose problem can be written.
+    Converted(Convertible),
+    /// Pairs of edges that have no cycle.
+    ForestPairs,
+    /// Pairs of edges without which the graph is connected.
+    SparePairs,
+    /// Edge-disjoint paths between terminals of different classes.
+    EdgePaths,
+    /// Vertices without which a cubic graph has no cycle.
+    FeedbackSet,
+}
+
+/// What is looked for in a graph by a problem that can be written.
+#[derive(Clone, Copy, Debug, Drop, PartialEq, Eq)]
+pub enum Convertible {
     /// Edges of which no two have a common end.
     Matching,
     /// Triangles of which none make a cycle.
@@ -93,7 +109,8 @@ impl GraphCommand {
         ensures { result ≡ object_of self }
     {
         match self {
-            GraphCommand::Find(object) | GraphCommand::Convert(object) => object,
+            GraphCommand::Find(object) => object,
+            GraphCommand::Convert(object) => GraphObject::Converted(object),
         }
     }
 }
@@ -104,14 +121,35 @@ impl GraphObject {
         ensures { MatchOption result ((object : GraphObject) → word.now ≢ object_word object)
             (λ object. word.now ≡ object_word object) }
     {
+        if word == "forestpairs" {
+            Some(GraphObject::ForestPairs)
+        } else if word == "sparepairs" {
+            Some(GraphObject::SparePairs)
+        } else if word == "epaths" {
+            Some(GraphObject::EdgePaths)
+        } else if word == "feedback" {
+            Some(GraphObject::FeedbackSet)
+        } else {
+            let object = Convertible::of(word)?;
+            Some(GraphObject::Converted(object))
+        }
+    }
+}
+
+impl Convertible {
+    /// The object of this word.
+    fn of(word: &str) -> Option<Convertible>
+        ensures { MatchOption result ((object : Convertible) → word.now ≢ convertible_word object)
+            (λ object. word.now ≡ convertible_word object) }
+    {
         if word == "matching" {
-            Some(GraphObject::Matching)
+            Some(Convertible::Matching)
         } else if word == "cactus" {
-            Some(GraphObject::Cactus)
+            Some(Convertible::Cactus)
         } else if word == "spaths" {
-            Some(GraphObject::PathFamily)
+            Some(Convertible::PathFamily)
         } else if word == "genus" {
-            Some(GraphObject::Rotation)
+            Some(Convertible::Rotation)
         } else {
             None
         }
@@ -178,7 +216,7 @@ fn of_word(word: &str) -> Option<Command>
 fn of_conversion(word: &str) -> Option<Command>
     ensures { Named (codes "convert" ∷ word.now ∷ []) result }
 {
-    let object = GraphObject::of(word)?;
+    let object = Convertible::of(word)?;
     Some(Command::OfText(TextCommand::OverGraph(GraphCommand::Convert(object))))
 }
 

@@ -1,12 +1,12 @@
-//! Whether a graph is connected, where it must be.
+//! Whether a graph is connected.
 
 ghost use Rattle.std.specs.Prelude.{◌≡◌, ◌<◌, ◌≤◌, ℕ, IfErr, IfSome, length, slice_index};
 ghost use Rattle.graph_theory.specs.Labels.{label};
 ghost use Rattle.parity_program.specs.Connectedness.{first_apart};
-ghost use Rattle.parity_program.specs.Inputs.{in_connected, unless_apart};
+ghost use Rattle.parity_program.specs.Inputs.{unless_apart};
 ghost use Rattle.parity_program.specs.Shown.{Admits, IsNoByteLimit};
 
-use crate::{GraphObject, Status};
+use crate::Status;
 use graph_core::{Graph, VertexList};
 use std::alloc::{AllocError, Global};
 
@@ -26,7 +26,7 @@ fn apart_from_first(graph: &Graph, labels: &VertexList) -> Option<usize>
 }
 
 /// Whether each vertex is connected with the first one. `NotConnected` says which is the first that isn't.
-fn connected(alloc: Global, graph: &Graph) -> Result<(), Status>
+pub fn connected(alloc: Global, graph: &Graph) -> Result<(), Status>
     requires { length graph.now.names ≤ 128 }
     ensures admits { Admits (λ x. unless_apart (first_apart (length graph.now.names) graph.now.ends) x) result }
     ensures kind { IfErr result IsNoByteLimit }
@@ -38,16 +38,4 @@ fn connected(alloc: Global, graph: &Graph) -> Result<(), Status>
         });
     }
     Ok(())
-}
-
-/// Whether the graph is connected, where the object is looked for in connected graphs alone.
-pub fn connected_for(alloc: Global, object: GraphObject, graph: &Graph) -> Result<(), Status>
-    requires { length graph.now.names ≤ 128 }
-    ensures admits { Admits (in_connected object graph.now) result }
-    ensures kind { IfErr result IsNoByteLimit }
-{
-    match object {
-        GraphObject::Rotation => connected(alloc, graph),
-        _ => Ok(()),
-    }
 }

@@ -3,8 +3,9 @@
 ghost use Rattle.std.specs.Prelude.{◌≡◌, ◌++◌, IfOk, OnOk};
 ghost use Rattle.parity_program.specs.Replies.{IsConversionReply, conversion_reply, offset_line};
 ghost use Rattle.parity_program.specs.Shown.{Suits, shown};
+ghost use Rattle.parity_program.specs.declared.command.GraphObject.TheVariants.{Converted};
 
-use crate::GraphObject;
+use crate::Convertible;
 use crate::reply::Reply;
 use field_core::Field;
 use graph_core::Graph;
@@ -37,17 +38,17 @@ fn converted<F: Field>(
 }
 
 /// The text of the problem by which the object is found.
-pub fn convert(alloc: Global, object: GraphObject, graph: &Graph) -> Result<Reply, AllocError>
-    requires { Suits object graph.now }
+pub fn convert(alloc: Global, object: Convertible, graph: &Graph) -> Result<Reply, AllocError>
+    requires { Suits (Converted object) graph.now }
     ensures { IfOk result (λ reply. IsConversionReply object graph.now (shown reply)) }
 {
     match object {
-        GraphObject::Matching => converted(alloc, 0, &matching_front::to_parity(alloc, graph)?),
-        GraphObject::Cactus => converted(alloc, 0, &cactus_front::to_parity(alloc, graph)?),
-        GraphObject::PathFamily => {
+        Convertible::Matching => converted(alloc, 0, &matching_front::to_parity(alloc, graph)?),
+        Convertible::Cactus => converted(alloc, 0, &cactus_front::to_parity(alloc, graph)?),
+        Convertible::PathFamily => {
             let paths = s_paths_front::to_parity(alloc, graph)?;
             converted(alloc, paths.offset, &paths.problem)
         }
-        GraphObject::Rotation => converted(alloc, 0, &genus_front::to_parity(alloc, graph)?),
+        Convertible::Rotation => converted(alloc, 0, &genus_front::to_parity(alloc, graph)?),
     }
 }

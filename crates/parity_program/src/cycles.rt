@@ -1,4 +1,4 @@
-//! The limits of a graph in which a rotation is looked for.
+//! The limits of a graph in which a rotation or spare pairs are looked for.
 
 ghost use Rattle.std.specs.Prelude.{◌≡◌, ◌≤◌, ◌<◌, ℕ, List, IfErr, IfOk, length, slice_index};
 ghost use Rattle.graph_core.specs.NamedGraphs.{IsNamedGraph};
@@ -7,7 +7,8 @@ ghost use Rattle.graph_theory.specs.Labels.{label};
 ghost use Rattle.line_lexer.specs.Lines.{Line};
 ghost use Rattle.parity_program.specs.AdjacentPairs.{cycle_rank, pair_count};
 ghost use Rattle.parity_program.specs.Inputs.{most_vertices, with_few_cycles, with_few_pairs, with_small_rank};
-ghost use Rattle.parity_program.specs.declared.command.GraphObject.TheVariants.{Rotation};
+ghost use Rattle.parity_program.specs.declared.command.Convertible.TheVariants.{Rotation};
+ghost use Rattle.parity_program.specs.declared.command.GraphObject.TheVariants.{Converted};
 ghost use Rattle.text_forms.specs.Gives.{Gives, IsOfText};
 
 use graph_core::{Graph, VertexList};
@@ -65,7 +66,7 @@ fn roots(graph: &Graph, labels: &VertexList) -> usize
 /// The edges and the components less the vertices.
 fn cycle_rank_of(alloc: Global, graph: &Graph) -> Result<usize, AllocError>
     requires edges { length graph.now.ends ≤ 512 }
-    requires vertices { length graph.now.names ≤ most_vertices Rotation }
+    requires vertices { length graph.now.names ≤ most_vertices (Converted Rotation) }
     ensures value { IfOk result (λ rank. rank ≡ cycle_rank (length graph.now.names) graph.now.ends) }
     ensures small { IfOk result (λ rank. rank ≤ 512) }
 {
@@ -76,9 +77,9 @@ fn cycle_rank_of(alloc: Global, graph: &Graph) -> Result<usize, AllocError>
 }
 
 /// Whether the graph has no greater cycle rank than it may have. `Limit` says how great it is.
-fn within_cycle_rank(alloc: Global, graph: &Graph) -> Result<(), TextRefusal>
+pub fn within_cycle_rank(alloc: Global, graph: &Graph) -> Result<(), TextRefusal>
     requires edges { length graph.now.ends ≤ 512 }
-    requires vertices { length graph.now.names ≤ most_vertices Rotation }
+    requires vertices { length graph.now.names ≤ most_vertices (Converted Rotation) }
     ensures gives { (line : ℕ) (left : List Line) → Gives (λ _. (graph.now, left)) result (with_small_rank graph.now line left) }
     ensures kind { IfErr result IsOfText }
 {
@@ -95,7 +96,7 @@ fn within_cycle_rank(alloc: Global, graph: &Graph) -> Result<(), TextRefusal>
 /// Whether the graph has no more pairs and no greater cycle rank than it may have.
 pub fn within_cycles(alloc: Global, graph: &Graph) -> Result<(), TextRefusal>
     requires edges { length graph.now.ends ≤ 512 }
-    requires vertices { length graph.now.names ≤ most_vertices Rotation }
+    requires vertices { length graph.now.names ≤ most_vertices (Converted Rotation) }
     ensures gives { (line : ℕ) (left : List Line) → Gives (λ _. (graph.now, left)) result (with_few_cycles graph.now line left) }
     ensures kind { IfErr result IsOfText }
 {

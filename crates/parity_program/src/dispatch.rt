@@ -4,7 +4,7 @@ ghost use Rattle.std.specs.Prelude.{◌≡◌, ◌≤◌, Err, IfErr, IfOk, leng
 ghost use Rattle.line_lexer.specs.declared.refusal.TextRefusal.{TextRefusal};
 ghost use Rattle.parity_program.specs.Inputs.{behind, input_of, numbered, object_of, status_of};
 ghost use Rattle.line_lexer.specs.Seen.{most_bytes};
-ghost use Rattle.parity_program.specs.Replies.{IsGraphReply, IsReply};
+ghost use Rattle.parity_program.specs.Replies.{IsFoundReply, IsGraphReply, IsReply};
 ghost use Rattle.parity_program.specs.Shown.{IsNoByteLimit, RepliesTo, Suits, meant_by, shown};
 ghost use Rattle.parity_program.specs.declared.command.Command.TheVariants.{OfText};
 ghost use Rattle.parity_program.specs.declared.command.TextCommand.TheVariants.{OverProblem, OverGraph};
@@ -16,8 +16,11 @@ ghost use Rattle.text_forms.specs.Reading.{chain};
 
 use crate::cactus::cactus;
 use crate::check::check;
-use crate::connection::connected_for;
 use crate::convert::convert;
+use crate::edge_paths::edge_paths;
+use crate::feedback::feedback;
+use crate::fitness::fit;
+use crate::forest_pairs::forest_pairs;
 use crate::generate::generate;
 use crate::genus::genus;
 use crate::graph_reader::graph_of;
@@ -26,8 +29,11 @@ use crate::matching::matching;
 use crate::reply::Reply;
 use crate::sample::sample;
 use crate::solve::solve;
+use crate::spare_pairs::spare_pairs;
 use crate::spaths::spaths;
-use crate::{GraphCommand, GraphObject, NumberCommand, ProblemCommand, Status, TextCommand};
+use crate::{
+    Convertible, GraphCommand, GraphObject, NumberCommand, ProblemCommand, Status, TextCommand,
+};
 use field_core::Field;
 use graph_core::Graph;
 use graph_text::graphs_are_within_limits;
@@ -87,16 +93,30 @@ fn reply_to_problem(alloc: Global, command: ProblemCommand, bytes: &[u8]) -> Res
     reply_named(alloc, command, name, &mut lexer)
 }
 
+/// The reply to a graph in which the object is looked for.
+fn found_in(alloc: Global, object: GraphObject, graph: &Graph) -> Result<Reply, AllocError>
+    requires { Suits object graph.now }
+    ensures { IfOk result (λ reply. IsFoundReply object graph.now (shown reply)) }
+{
+    match object {
+        GraphObject::Converted(Convertible::Matching) => matching(alloc, graph),
+        GraphObject::Converted(Convertible::Cactus) => cactus(alloc, graph),
+        GraphObject::Converted(Convertible::PathFamily) => spaths(alloc, graph),
+        GraphObject::Converted(Convertible::Rotation) => genus(alloc, graph),
+        GraphObject::ForestPairs => forest_pairs(alloc, graph),
+        GraphObject::SparePairs => spare_pairs(alloc, graph),
+        GraphObject::EdgePaths => edge_paths(alloc, graph),
+        GraphObject::FeedbackSet => feedback(alloc, graph),
+    }
+}
+
 /// The reply to a graph.
 fn reply_of_graph(alloc: Global, command: GraphCommand, graph: &Graph) -> Result<Reply, AllocError>
     requires { Suits (object_of command) graph.now }
     ensures { IfOk result (λ reply. IsGraphReply command graph.now (shown reply)) }
 {
     match command {
-        GraphCommand::Find(GraphObject::Matching) => matching(alloc, graph),
-        GraphCommand::Find(GraphObject::Cactus) => cactus(alloc, graph),
-        GraphCommand::Find(GraphObject::PathFamily) => spaths(alloc, graph),
-        GraphCommand::Find(GraphObject::Rotation) => genus(alloc, graph),
+        GraphCommand::Find(object) => found_in(alloc, object, graph),
         GraphCommand::Convert(object) => convert(alloc, object, graph),
     }
 }
@@ -111,7 +131,7 @@ fn reply_to_graph(alloc: Global, command: GraphCommand, bytes: &[u8]) -> Result<
     let object = command.object();
     let graph = graph_of(alloc, object, &mut lexer)?;
     graphs_are_within_limits();
-    connected_for(alloc, object, &graph)?;
+    fit(alloc, object, &graph)?;
     Ok(reply_of_graph(alloc, command, &graph)?)
 }
 

@@ -3,7 +3,8 @@
 ghost use Rattle.std.specs.Prelude.{IfOk};
 ghost use Rattle.parity_program.specs.Replies.{IsFoundReply};
 ghost use Rattle.parity_program.specs.Shown.{IsConnectedGraph, shown};
-ghost use Rattle.parity_program.specs.declared.command.GraphObject.TheVariants.{Rotation};
+ghost use Rattle.parity_program.specs.declared.command.Convertible.TheVariants.{Rotation};
+ghost use Rattle.parity_program.specs.declared.command.GraphObject.TheVariants.{Converted};
 
 use crate::reply::Reply;
 use crate::solver::solution;
@@ -15,7 +16,7 @@ use std::alloc::{AllocError, Global};
 /// The text of a rotation of maximum genus.
 pub fn genus(alloc: Global, graph: &Graph) -> Result<Reply, AllocError>
     requires { IsConnectedGraph graph.now }
-    ensures { IfOk result (λ reply. IsFoundReply Rotation graph.now (shown reply)) }
+    ensures { IfOk result (λ reply. IsFoundReply (Converted Rotation) graph.now (shown reply)) }
 {
     let problem = to_parity(alloc, graph)?;
     let answer = solution(alloc, &problem)?;

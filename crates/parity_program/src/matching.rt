@@ -3,7 +3,8 @@
 ghost use Rattle.std.specs.Prelude.{IfOk};
 ghost use Rattle.parity_program.specs.Replies.{IsFoundReply};
 ghost use Rattle.parity_program.specs.Shown.{shown};
-ghost use Rattle.parity_program.specs.declared.command.GraphObject.TheVariants.{Matching};
+ghost use Rattle.parity_program.specs.declared.command.Convertible.TheVariants.{Matching};
+ghost use Rattle.parity_program.specs.declared.command.GraphObject.TheVariants.{Converted};
 
 use crate::reply::Reply;
 use crate::solver::solution;
@@ -14,7 +15,7 @@ use std::alloc::{AllocError, Global};
 
 /// The text of a largest matching of the graph.
 pub fn matching(alloc: Global, graph: &Graph) -> Result<Reply, AllocError>
-    ensures { IfOk result (λ reply. IsFoundReply Matching graph.now (shown reply)) }
+    ensures { IfOk result (λ reply. IsFoundReply (Converted Matching) graph.now (shown reply)) }
 {
     let problem = to_parity(alloc, graph)?;
     let answer = solution(alloc, &problem)?;

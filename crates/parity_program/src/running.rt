@@ -93,7 +93,10 @@ fn run_command<I: Source, O: Sink>(
 /// the input and that is one line longer, `none` exactly where there is no such set, and where the set is
 /// dependent a relation of its vectors. To `solve` it is a good answer of the problem in the input, so its set is
 /// largest; to `matching`, `cactus` and `spaths` a largest matching, triangle cactus or family of disjoint paths of the
-/// graph in the input, to `genus` a rotation of maximum genus; to `convert` the parity problem by which that is found.
+/// graph in the input, to `genus` a rotation of maximum genus; to `convert` the parity problem by which that is found. To
+/// `forestpairs` it is a longest list of pairs of edges that have no cycle, to `sparepairs` one without whose edges the graph is
+/// connected; to `epaths` a largest family of edge-disjoint paths, to `feedback` a least set of vertices without which a cubic graph
+/// has no cycle.
 /// `generate` and `sample` read nothing: the one replies with the text of a number's problem, the other with how many
 /// lines its largest independent sets have.
 /// With words that are no command's, nothing is read or written. `complete` says that an accepted input is

@@ -3,7 +3,8 @@
 ghost use Rattle.std.specs.Prelude.{IfOk};
 ghost use Rattle.parity_program.specs.Replies.{IsFoundReply};
 ghost use Rattle.parity_program.specs.Shown.{HasFewClasses, shown};
-ghost use Rattle.parity_program.specs.declared.command.GraphObject.TheVariants.{PathFamily};
+ghost use Rattle.parity_program.specs.declared.command.Convertible.TheVariants.{PathFamily};
+ghost use Rattle.parity_program.specs.declared.command.GraphObject.TheVariants.{Converted};
 
 use crate::reply::Reply;
 use crate::solver::solution;
@@ -15,7 +16,7 @@ use std::alloc::{AllocError, Global};
 /// The text of a largest family of disjoint paths between terminals of different classes.
 pub fn spaths(alloc: Global, graph: &Graph) -> Result<Reply, AllocError>
     requires { HasFewClasses graph.now }
-    ensures { IfOk result (λ reply. IsFoundReply PathFamily graph.now (shown reply)) }
+    ensures { IfOk result (λ reply. IsFoundReply (Converted PathFamily) graph.now (shown reply)) }
 {
     let _edges = graph.edges();
     let converted = to_parity(alloc, graph)?;

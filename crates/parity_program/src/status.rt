@@ -26,6 +26,8 @@ pub enum Status {
     Limit { what: Counted, found: u32 },
     /// This vertex isn't connected with the first.
     NotConnected { vertex: u32 },
+    /// This vertex isn't the end of three edges that lead to three different other vertices.
+    NotCubic { vertex: u32 },
     /// The source failed.
     ReadFault,
     /// The sink failed.
@@ -117,7 +119,7 @@ impl Status {
             Status::No => 1,
             Status::Usage => 2,
             Status::BadText { .. } => 3,
-            Status::Limit { .. } | Status::NotConnected { .. } => 4,
+            Status::Limit { .. } | Status::NotConnected { .. } | Status::NotCubic { .. } => 4,
             Status::ReadFault => 5,
             Status::WriteFault => 6,
             Status::OutOfMemory => 7,
@@ -146,6 +148,9 @@ impl Status {
                 .with_number(*found),
             Status::NotConnected { vertex } => {
                 empty.with(b"not connected: vertex ").with_number(*vertex)
+            }
+            Status::NotCubic { vertex } => {
+                empty.with(b"not cubic: vertex ").with_number(*vertex)
             }
             Status::ReadFault => empty.with(b"read fault"),
             Status::WriteFault => empty.with(b"write fault"),

@@ -7,8 +7,6 @@ mod laws;
 mod line_readers;
 mod line_writers;
 mod position_readers;
-#[cfg(test)]
-mod tests;
 mod text_readers;
 mod text_writers;
 mod vector_readers;

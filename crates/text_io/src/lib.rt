@@ -16,7 +16,7 @@
 //! - [`StdSource`] and [`StdSink`] stand over a reader and a writer of std. Where these tell their
 //!   bytes, the contracts pass that on. What the system gives and takes is outside of any proof, and
 //!   that each error becomes a fault, that no call is tried again and that the sink flushes is
-//!   tested.
+//!   tested, in `worked_bases`.
 //!
 //! The definitions that the contracts cite are in `specs/`: `Counts` for counts that stay at their
 //! last value, `Told` for bytes that may be told, `Reading` for the causes of an answer of
@@ -34,8 +34,6 @@ mod std_sink;
 mod std_source;
 mod steady_sink;
 mod steady_source;
-#[cfg(test)]
-mod tests;
 mod writing;
 
 pub use failed::Failed;

@@ -1,11 +1,10 @@
 //! Augmentation, with the search and by the recursion alone, and largest sets.
 
+use crate::asserting::assert_text;
 use crate::partitions::{
-    LONGER, NO_LINE, OVERLAPPING, REPEATED, THREE_TRIANGLES, TRIANGLE, TWO_TRIANGLES, choice_of,
-    shown_parts,
+    LONGER, NO_LINE, OVERLAPPING, REPEATED, THREE_TRIANGLES, TRIANGLE, TWO_TRIANGLES, choice_text,
 };
 use crate::places::{PATH, ready};
-use crate::reading::{assert_text, problem, shown_rows, shown_set};
 use crate::verdicts::{HUB, assert_verdict};
 use augment::{Solver, Step, augment, augment_by_recursion};
 use cert_check::Verdict;
@@ -16,6 +15,7 @@ use small_fields::{F2, F256};
 use std::alloc::{AllocError, Global};
 use std::process::Abort;
 use std::test::Fail;
+use worked_texts::{problem_of, shown_parts, shown_rows, shown_set};
 
 /// The text of an answer.
 fn written<F: Field>(
@@ -62,7 +62,7 @@ fn step_from<F: Field>(
     chosen: (usize, &str),
     by: By,
 ) -> Result<String, AllocError> {
-    let text = choice_of(alloc, chosen.0, chosen.1)?;
+    let text = choice_text(alloc, chosen.0, chosen.1)?;
     let state = ready(rt, alloc, problem, text.as_str())?;
     let set = state.set();
     let step = match by {
@@ -86,7 +86,7 @@ fn assert_step<F: Field>(
     chosen: (usize, &str),
     want: &str,
 ) -> Result<(), AllocError> {
-    let problem = problem::<F>(rt, alloc, text);
+    let problem = problem_of::<F>(alloc, text).expect(rt, "a problem");
     assert_text(
         rt,
         step_from(rt, alloc, &problem, chosen, By::Search)?.as_str(),
@@ -117,7 +117,7 @@ fn assert_largest<F: Field>(
     text: &str,
     chosen: (usize, &str),
 ) -> Result<(), AllocError> {
-    let problem = problem::<F>(rt, alloc, text);
+    let problem = problem_of::<F>(alloc, text).expect(rt, "a problem");
     let told = step_from(rt, alloc, &problem, chosen, By::Recursion)?;
     assert!(rt; told.as_str().contains("lines; kernel"));
     Ok(())
@@ -130,7 +130,7 @@ fn assert_longer<F: Field>(
     text: &str,
     chosen: (usize, &str),
 ) -> Result<(), AllocError> {
-    let problem = problem::<F>(rt, alloc, text);
+    let problem = problem_of::<F>(alloc, text).expect(rt, "a problem");
     let told = step_from(rt, alloc, &problem, chosen, By::Recursion)?;
     assert!(rt; !told.as_str().contains("lines; kernel"));
     Ok(())
@@ -156,7 +156,7 @@ fn assert_solved<F: Field>(
     text: &str,
     want: usize,
 ) -> Result<(), AllocError> {
-    let problem = problem::<F>(rt, alloc, text);
+    let problem = problem_of::<F>(alloc, text).expect(rt, "a problem");
     let answer = Solver.largest(alloc, &problem)?;
     judged(rt, alloc, &problem, &answer)?;
     assert_eq!(rt; answer.set.len(), want);

@@ -1,7 +1,7 @@
 //! Families of independent sets, and what their spans have in common.
 
+use crate::asserting::assert_text;
 use crate::places::{SECOND_AND_FOURTH, ready};
-use crate::reading::{assert_text, problem, shown_rows, shown_set};
 use families::Family;
 use field_core::Field;
 use parity_lines::Problem;
@@ -9,6 +9,7 @@ use small_fields::F2;
 use std::alloc::{AllocError, Global};
 use std::process::Abort;
 use std::test::Fail;
+use worked_texts::{problem_of, shown_rows, shown_set};
 
 /// The family of the set that a text chooses.
 pub fn one<'a, F: Field>(
@@ -88,7 +89,7 @@ fn assert_one<F: Field>(
     first: &str,
     want: &str,
 ) -> Result<(), AllocError> {
-    let problem = problem::<F>(rt, alloc, text);
+    let problem = problem_of::<F>(alloc, text).expect(rt, "a problem");
     let family = one(rt, alloc, &problem, first)?;
     assert_text(rt, told(rt, &family)?.as_str(), want);
     Ok(())
@@ -102,7 +103,7 @@ fn assert_two<F: Field>(
     sets: (&str, &str),
     want: &str,
 ) -> Result<(), AllocError> {
-    let problem = problem::<F>(rt, alloc, text);
+    let problem = problem_of::<F>(alloc, text).expect(rt, "a problem");
     let mut family = one(rt, alloc, &problem, sets.0)?;
     add(rt, &mut family, sets.1)?;
     assert_text(rt, told(rt, &family)?.as_str(), want);

@@ -5,27 +5,17 @@
 #![tactic(auto)]
 
 #[cfg(test)]
+mod asserting;
+#[cfg(test)]
 mod augmentations;
 #[cfg(test)]
-mod bases;
-#[cfg(test)]
 mod common_vectors;
-#[cfg(test)]
-mod fields;
 #[cfg(test)]
 mod overlaps;
 #[cfg(test)]
 mod partitions;
 #[cfg(test)]
 mod places;
-#[cfg(test)]
-mod reading;
-#[cfg(test)]
-mod rows;
-#[cfg(test)]
-mod sets;
-#[cfg(test)]
-mod subspaces;
 #[cfg(test)]
 mod verdicts;
 #[cfg(test)]

@@ -4,9 +4,9 @@ ghost use Rattle.std.specs.Prelude.{◌≡◌, ◌∷◌, [], IfOk, None};
 ghost use Rattle.matching_state.specs.Missing.{Misses};
 ghost use Rattle.matching_state.specs.DirectSteps.{TellsDirectStep};
 
+use crate::asserting::assert_text;
 use crate::common_vectors::{FORK, THIRD_AND_FIFTH};
 use crate::places::{SECOND_AND_FOURTH, ready};
-use crate::reading::{assert_text, problem, shown, shown_set};
 use field_core::Field;
 use matching_state::Matched;
 use overlap::{Overlap, at, find, raise};
@@ -15,6 +15,7 @@ use small_fields::{F2, F251};
 use std::alloc::{AllocError, Global};
 use std::process::Abort;
 use std::test::Fail;
+use worked_texts::{problem_of, shown, shown_set};
 
 /// The two lines of an overlap, and its point.
 fn told<F: Field>(overlap: &Overlap<'_, F>) -> Result<String, AllocError> {
@@ -100,7 +101,7 @@ fn assert_overlap<F: Field>(
     chosen: &str,
     want: &str,
 ) -> Result<(), AllocError> {
-    let problem = problem::<F>(rt, alloc, text);
+    let problem = problem_of::<F>(alloc, text).expect(rt, "a problem");
     let state = ready(rt, alloc, &problem, chosen)?;
     assert_text(rt, found(rt, &state)?.as_str(), want);
     assert_text(rt, told(&overlap(rt, &state)?)?.as_str(), want);
@@ -115,7 +116,7 @@ fn raised_at<F: Field>(
     chosen: &str,
     other: &str,
 ) -> Result<String, AllocError> {
-    let problem = problem::<F>(rt, alloc, text);
+    let problem = problem_of::<F>(alloc, text).expect(rt, "a problem");
     let state = ready(rt, alloc, &problem, chosen)?;
     let other = ready(rt, alloc, &problem, other)?;
     shown_set(alloc, &raised(rt, &overlap(rt, &state)?, &other)?)

@@ -2,22 +2,23 @@
 
 ghost use Rattle.std.specs.Prelude.{◌≡◌, IfOk};
 
+use crate::asserting::assert_text;
 use crate::common_vectors::{add, one};
 use crate::overlaps::{overlap, raised};
 use crate::places::ready;
-use crate::reading::{assert_text, problem, shown_set};
 use classes::{Classes, partition};
 use families::Family;
 use field_core::Field;
 use matching_state::Matched;
-use parity_lines::{LineSet, Parts, Problem};
+use parity_lines::{LineSet, Problem};
 use small_fields::F2;
 use std::alloc::{AllocError, Global};
 use std::process::Abort;
 use std::test::Fail;
+use worked_texts::{problem_of, shown_parts, shown_set};
 
 /// A choice of these lines, so many of them.
-pub fn choice_of(alloc: Global, size: usize, lines: &str) -> Result<String, AllocError> {
+pub fn choice_text(alloc: Global, size: usize, lines: &str) -> Result<String, AllocError> {
     format!(in alloc; "choice 1\nsize {}\nset {}\nend\n", size, lines)
 }
 
@@ -29,7 +30,7 @@ fn add_all<F: Field>(
     sets: &[&str],
 ) -> Result<(), AllocError> {
     for set in sets {
-        let text = choice_of(family.alloc(), size, set)?;
+        let text = choice_text(family.alloc(), size, set)?;
         add(rt, family, text.as_str())?;
     }
     Ok(())
@@ -41,18 +42,6 @@ fn parted<F: Field>(rt: &impl Abort, family: &mut Family<'_, F>) -> Result<Class
     partition(family)
 }
 
-/// The parts, one after the other.
-pub fn shown_parts(alloc: Global, parts: &Parts) -> Result<String, AllocError> {
-    let mut text = String::new(alloc);
-    for i in 0..parts.len() {
-        if i > 0 {
-            text.push_str(" / ")?;
-        }
-        text.push_str(shown_set(alloc, parts.at(i))?.as_str())?;
-    }
-    Ok(text)
-}
-
 /// The state of a set that is independent.
 fn state_of<'a, F: Field>(
     rt: &impl Abort,
@@ -62,7 +51,7 @@ fn state_of<'a, F: Field>(
 ) -> Result<Matched<'a, F>, AllocError>
     ensures { IfOk result (λ state. state.problem ≡ problem.now) }
 {
-    let text = choice_of(alloc, set.len(), shown_set(alloc, set)?.as_str())?;
+    let text = choice_text(alloc, set.len(), shown_set(alloc, set)?.as_str())?;
     ready(rt, alloc, problem, text.as_str())
 }
 
@@ -114,8 +103,8 @@ fn assert_classes<F: Field>(
     sets: (&str, &[&str]),
     want: &str,
 ) -> Result<(), AllocError> {
-    let problem = problem::<F>(rt, alloc, text);
-    let first = choice_of(alloc, size, sets.0)?;
+    let problem = problem_of::<F>(alloc, text).expect(rt, "a problem");
+    let first = choice_text(alloc, size, sets.0)?;
     let mut family = one(rt, alloc, &problem, first.as_str())?;
     add_all(rt, &mut family, size, sets.1)?;
     let classes = parted(rt, &mut family)?;

@@ -2,7 +2,7 @@
 
 ghost use Rattle.std.specs.Prelude.{◌≡◌, IfOk};
 
-use crate::reading::{assert_text, choice, problem, shown, shown_set};
+use crate::asserting::assert_text;
 use field_core::Field;
 use matching_state::{Matched, Place, Start};
 use parity_lines::Problem;
@@ -10,6 +10,7 @@ use small_fields::{F2, F3, F5, F256};
 use std::alloc::{AllocError, Global};
 use std::process::Abort;
 use std::test::Fail;
+use worked_texts::{choice_of, problem_of, shown, shown_set};
 
 /// The state of the set that a text chooses.
 pub fn ready<'a, F: Field>(
@@ -20,7 +21,11 @@ pub fn ready<'a, F: Field>(
 ) -> Result<Matched<'a, F>, AllocError>
     ensures { IfOk result (λ state. state.problem ≡ problem.now) }
 {
-    match Matched::start(alloc, problem, &choice(rt, alloc, problem, text))? {
+    match Matched::start(
+        alloc,
+        problem,
+        &choice_of(alloc, problem, text).expect(rt, "a choice"),
+    )? {
         Start::Ready(state) => Ok(state),
         Start::Relation(_) => panic!(rt; "the set is independent"),
     }
@@ -72,7 +77,7 @@ fn assert_places<F: Field>(
     chosen: &str,
     want: &str,
 ) -> Result<(), AllocError> {
-    let problem = problem::<F>(rt, alloc, text);
+    let problem = problem_of::<F>(alloc, text).expect(rt, "a problem");
     let state = ready(rt, alloc, &problem, chosen)?;
     assert_text(rt, places(rt, &state)?.as_str(), want);
     Ok(())
@@ -85,7 +90,7 @@ fn step_from<F: Field>(
     text: &str,
     chosen: &str,
 ) -> Result<String, AllocError> {
-    let problem = problem::<F>(rt, alloc, text);
+    let problem = problem_of::<F>(alloc, text).expect(rt, "a problem");
     let state = ready(rt, alloc, &problem, chosen)?;
     step(&state)
 }
@@ -173,7 +178,7 @@ fn assert_coordinates<F: Field>(
     first: &str,
     second: &str,
 ) -> Result<(), AllocError> {
-    let vectors = problem::<F>(rt, state.alloc(), line);
+    let vectors = problem_of::<F>(state.alloc(), line).expect(rt, "a problem");
     assert!(rt; vectors.len() == 1);
     assert_text(
         rt,
@@ -190,7 +195,7 @@ fn assert_coordinates<F: Field>(
 
 #[test]
 fn vectors_have_coordinates(rt: HostRuntime) -> Result<(), Fail> {
-    let three = problem::<F3>(&rt, rt.alloc(), THREE);
+    let three = problem_of::<F3>(rt.alloc(), THREE).expect(&rt, "a problem");
     let state = ready(&rt, rt.alloc(), &three, FIRST)?;
     let line = "parity 1\nfield 3\ndimension 4\nlines 1\nline 1 1 0 0 | 1 1 0 1\n";
     assert_coordinates(&rt, &state, line, "1 1", "none")?;
@@ -204,8 +209,12 @@ fn started<F: Field>(
     text: &str,
     chosen: &str,
 ) -> Result<String, AllocError> {
-    let problem = problem::<F>(rt, alloc, text);
-    match Matched::start(alloc, &problem, &choice(rt, alloc, &problem, chosen))? {
+    let problem = problem_of::<F>(alloc, text).expect(rt, "a problem");
+    match Matched::start(
+        alloc,
+        &problem,
+        &choice_of(alloc, &problem, chosen).expect(rt, "a choice"),
+    )? {
         Start::Ready(state) => shown_set(alloc, state.set()),
         Start::Relation(row) => shown(alloc, row.as_slice()),
     }

@@ -1,6 +1,5 @@
 //! Verdicts on answers.
 
-use crate::reading::{answer, lines, problem};
 use cert_check::{Verdict, verdict};
 use field_core::Field;
 use parity_lines::Problem;
@@ -8,6 +7,7 @@ use small_fields::{F2, F256};
 use std::alloc::{AllocError, Global};
 use std::process::Abort;
 use std::test::Fail;
+use worked_texts::{answer_of, lines_of, problem_of};
 
 /// The verdict on the answer of a text.
 fn judged<F: Field>(
@@ -16,7 +16,7 @@ fn judged<F: Field>(
     problem: &Problem<F>,
     text: &str,
 ) -> Result<Verdict, AllocError> {
-    let answer = answer(rt, alloc, problem, text);
+    let answer = answer_of(alloc, problem, text).expect(rt, "an answer");
     verdict(alloc, problem, &answer)
 }
 
@@ -63,7 +63,7 @@ const ONE_PART: &str =
 const NO_KERNEL: &str = "answer 1\nsize 0\nset\nkernel 0\nparts 1\npart 1 2 3\nend\n";
 
 fn assert_verdicts<F: Field>(rt: &impl Abort, alloc: Global) -> Result<(), AllocError> {
-    let star = lines::<F>(rt, alloc, STAR);
+    let star = lines_of::<F>(alloc, STAR).expect(rt, "lines");
     assert_verdict(rt, alloc, &star, GOOD, Verdict::Yes)?;
     assert_verdict(rt, alloc, &star, TWO_LINES, Verdict::Dependent)?;
     assert_verdict(rt, alloc, &star, KERNEL_TWICE, Verdict::KernelDependent)?;
@@ -109,7 +109,7 @@ const HUB_FIVE: &str =
 #[test]
 fn hub_of_three_triangles(rt: HostRuntime) -> Result<(), Fail> {
     let alloc = rt.alloc();
-    let hub = problem::<F2>(&rt, alloc, HUB);
+    let hub = problem_of::<F2>(alloc, HUB).expect(&rt, "a problem");
     assert_verdict(&rt, alloc, &hub, HUB_KERNEL, Verdict::Yes)?;
     let six = Verdict::BoundOff { size: 4, bound: 6 };
     assert_verdict(&rt, alloc, &hub, HUB_NO_KERNEL, six)?;

@@ -2,8 +2,8 @@
 
 ghost use Rattle.std.specs.Prelude.{◌<◌, All, length};
 
+use crate::asserting::assert_text;
 use crate::places::{FIRST, PATH, SECOND_AND_FOURTH, THREE, ready};
-use crate::reading::{assert_text, choice, problem, shown_set};
 use exchanges::{Moved, Stepped, move_toward, step_toward, swap};
 use field_core::{Field, Rows};
 use matching_state::{Matched, Place};
@@ -12,6 +12,7 @@ use small_fields::{F2, F3};
 use std::alloc::{AllocError, Global};
 use std::process::Abort;
 use std::test::Fail;
+use worked_texts::{choice_of, problem_of, shown_set};
 
 /// Puts the line `into` in the place of `out`, which is in its support.
 fn exchange<F: Field>(
@@ -61,7 +62,7 @@ fn step_to<F: Field>(
     state: &mut Matched<'_, F>,
     text: &str,
 ) -> Result<String, AllocError> {
-    let target = choice(rt, state.alloc(), state.problem(), text);
+    let target = choice_of(state.alloc(), state.problem(), text).expect(rt, "a choice");
     step(state, &target)
 }
 
@@ -74,7 +75,7 @@ fn assert_exchange<F: Field>(
     lines: (usize, usize),
     want: &str,
 ) -> Result<(), AllocError> {
-    let problem = problem::<F>(rt, alloc, text);
+    let problem = problem_of::<F>(alloc, text).expect(rt, "a problem");
     let mut state = ready(rt, alloc, &problem, chosen)?;
     exchange(rt, &mut state, lines.0, lines.1)?;
     assert_text(rt, shown_set(alloc, state.set())?.as_str(), want);
@@ -89,9 +90,9 @@ fn assert_walk<F: Field>(
     want: &str,
     set: &str,
 ) -> Result<(), AllocError> {
-    let problem = problem::<F>(rt, alloc, texts.0);
+    let problem = problem_of::<F>(alloc, texts.0).expect(rt, "a problem");
     let mut state = ready(rt, alloc, &problem, texts.1)?;
-    let target = choice(rt, alloc, state.problem(), texts.2);
+    let target = choice_of(alloc, state.problem(), texts.2).expect(rt, "a choice");
     assert_text(rt, walk(&mut state, &target)?.as_str(), want);
     assert_text(rt, shown_set(alloc, state.set())?.as_str(), set);
     Ok(())
@@ -126,7 +127,7 @@ fn path_is_walked_to_its_ends(rt: HostRuntime) -> Result<(), Fail> {
 
 #[test]
 fn path_is_walked_step_by_step(rt: HostRuntime) -> Result<(), Fail> {
-    let path = problem::<F2>(&rt, rt.alloc(), PATH);
+    let path = problem_of::<F2>(rt.alloc(), PATH).expect(&rt, "a problem");
     let mut state = ready(&rt, rt.alloc(), &path, SECOND_AND_FOURTH)?;
     assert_step(&rt, &mut state, FIRST_AND_LAST, "1 for 2")?;
     assert_step(&rt, &mut state, FIRST_AND_LAST, "5 for 4")?;

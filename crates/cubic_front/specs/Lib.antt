@@ -1,0 +1,3 @@
+pub mod CubicGraphs
+pub mod FeedbackVertexSets
+pub mod CommonEnds

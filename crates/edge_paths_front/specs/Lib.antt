@@ -1,0 +1,3 @@
+pub mod SecondGraphs
+pub mod Replies
+pub mod Orders
