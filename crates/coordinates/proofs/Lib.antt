@@ -1,0 +1,7 @@
+pub mod Replacements
+pub mod Pivots
+pub mod Swaps
+pub mod Units
+pub mod Tails
+pub mod IndependentTails
+pub mod Coordinates

@@ -1,0 +1,3 @@
+mod Chunks
+mod Elements
+pub mod Writes
