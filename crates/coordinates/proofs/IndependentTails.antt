@@ -19,7 +19,7 @@ use Rattle.linear_algebra.proofs.IndependenceLaws.{independent_left, independent
 use Rattle.coordinates.proofs.Tails.{front_vectors, back_vectors, drop_vector, front_combines, front_of_zero_tail}
 use Rattle.coordinates.proofs.Units.{zeros-sum}
 
-drop-vector_sum : (S : Scalars) (k : ℕ) (u v : List ℕ) → drop k (vector_sum S u v) ≡ vector_sum S (drop k u) (drop k v)
+pub drop-vector_sum : (S : Scalars) (k : ℕ) (u v : List ℕ) → drop k (vector_sum S u v) ≡ vector_sum S (drop k u) (drop k v)
 unfolding vector_sum
 drop-vector_sum S zero u v = refl
 drop-vector_sum S (suc k) [] v = refl
@@ -58,14 +58,14 @@ module _ (S : Scalars) (F : IsField S) (d : ℕ) where
       gives = combination-push_zeros S F d (length vs) [] vs (All-nil (IsScalar S)) basis_vectors;
     }
 
-    combines_sum : (cs ds x y : List ℕ) → Combines S d vs cs x → Combines S d vs ds y →
+    pub combines_sum : (cs ds x y : List ℕ) → Combines S d vs cs x → Combines S d vs ds y →
         Combines S d vs (vector_sum S cs ds) (vector_sum S x y)
     combines_sum cs ds x y p q = record {
       one_each = vector_sum-vector S F (length vs) cs ds p.one_each q.one_each;
       gives = combination-sum S F d (length vs) cs ds vs p.one_each q.one_each basis_vectors ∙ ap₂ (vector_sum S) p.gives q.gives;
     }
 
-    combines_multiple : (a : ℕ) (cs x : List ℕ) → IsScalar S a → Combines S d vs cs x → Combines S d vs (multiple S a cs) (multiple S a x)
+    pub combines_multiple : (a : ℕ) (cs x : List ℕ) → IsScalar S a → Combines S d vs cs x → Combines S d vs (multiple S a cs) (multiple S a x)
     combines_multiple a cs x h p = record {
       one_each = multiple-vector S F (length vs) a cs h p.one_each;
       gives = combination-multiple S F d (length vs) a cs vs h p.one_each basis_vectors ∙ ap (multiple S a) p.gives;

@@ -7,6 +7,8 @@ use Rattle.std.proofs.lemmas.List.Elements.{All-head, All-tail}
 use Rattle.linear_algebra.specs.Scalars.{Scalars, IsScalar, IsField}
 use Rattle.linear_algebra.specs.Vectors.{vector_sum, multiple}
 use Rattle.small_fields.specs.Modular.{modulo}
+use Rattle.packed_rows.specs.Carried.{carried}
+use Rattle.packed_rows.proofs.Carries.{map-carried, All-carried}
 use Rattle.kept_rows.specs.declared.kept.Entries.{Entries}
 use Rattle.kept_rows.specs.declared.kept.Entries.TheVariants.{Plain, Packed}
 use Rattle.kept_rows.specs.Kept.{scalar_of, unpacked, scalars_kept, IsPackedForTwo}
@@ -35,6 +37,13 @@ set_plain row next u i x e is = is ∙ ap (λ v. set v i x) e
 
 pub multiple_plain : (S : Scalars) (row next u : List ℕ) (x : ℕ) → row ≡ u → next ≡ multiple S x row → next ≡ multiple S x u
 multiple_plain S row next u x e is = is ∙ ap (multiple S x) e
+
+pub carried_plain : (row next u : List ℕ) (from to : ℕ) → row ≡ u → next ≡ carried row from to → next ≡ carried u from to
+carried_plain row next u from to e is = is ∙ ap (λ v. carried v from to) e
+
+pub carried_kept : (S : Scalars) (bits next u : List ℕ) (from to : ℕ) → unpacked S bits ≡ u → next ≡ carried bits from to →
+    unpacked S next ≡ carried u from to
+carried_kept S bits next u from to e is = ap (unpacked S) is ∙ map-carried (scalar_of S) bits from to ∙ ap (λ v. carried v from to) e
 
 pub length-unpacked : (S : Scalars) (bits u : List ℕ) → unpacked S bits ≡ u → length bits ≡ length u
 length-unpacked S bits u e = sym (length-map bits (scalar_of S)) ∙ ap length e
@@ -104,3 +113,6 @@ bits_of_sum bits other next e = subst AreBits (sym e) (sum-bits bits other)
 
 pub bits_of_multiple : (bits next : List ℕ) (c : ℕ) → next ≡ multiple (modulo 2) c bits → AreBits next
 bits_of_multiple bits next c e = subst AreBits (sym e) (multiple-bits c bits)
+
+pub bits_of_carried : (bits next : List ℕ) (from to : ℕ) → AreBits bits → next ≡ carried bits from to → AreBits next
+bits_of_carried bits next from to are e = subst AreBits (sym e) (All-carried (λ b. b < 2) bits from to are)

@@ -4,10 +4,11 @@ ghost use Rattle.std.specs.Prelude.{◌≡◌, ◌≢◌, ◌<◌, ◌↔◌, If
 ghost use Rattle.std.specs.List.{swap};
 ghost use Rattle.linear_algebra.specs.Scalars.{IsScalar};
 ghost use Rattle.linear_algebra.specs.Vectors.{zero_vector, vector_sum, multiple};
+ghost use Rattle.packed_rows.specs.Carried.{carried};
 ghost use Rattle.kept_rows.specs.Kept.{Lends, unpacked};
 
 use crate::bit::{bit_of, value_of};
-use crate::plain::{count, element, write};
+use crate::plain::{carry, count, element, write};
 use field_core::{Field, Row, is_zero};
 use packed_rows::PackedF2;
 use std::alloc::{AllocError, Global};
@@ -163,6 +164,19 @@ impl<F: Field> KeptRow<F> {
         let second = self.get(j);
         self.put(i, second);
         self.put(j, first);
+    }
+
+    /// Takes the element at `from` out, and puts it in so that it stands at `to`; those between move by one place. It takes
+    /// no memory.
+    pub fn carry(&mut self, from: usize, to: usize)
+        requires first { from < length self.old }
+        requires second { to < length self.old }
+        ensures { self.new ≡ carried self.old from to }
+    {
+        match &mut self.entries {
+            Entries::Plain(row) => carry(row, from, to),
+            Entries::Packed(bits) => bits.carry(from, to),
+        }
     }
 
     /// Adds `factor` times `source`.

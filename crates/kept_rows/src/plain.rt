@@ -2,6 +2,7 @@
 
 ghost use Rattle.std.specs.Prelude.{◌≡◌, ◌<◌, List, ℕ, All, map, length, slice_index, slice_set};
 ghost use Rattle.linear_algebra.specs.Scalars.{IsScalar};
+ghost use Rattle.packed_rows.specs.Carried.{carried};
 
 use field_core::{Field, Row};
 
@@ -34,4 +35,26 @@ pub(crate) fn write<F: Field>(row: &mut Row<F>, i: usize, value: F)
     ensures { row.new ≡ slice_set row.old i (F.number value) }
 {
     write_at(row.as_mut_slice(), i, value);
+}
+
+fn carry_in<T>(items: &mut [T], from: usize, to: usize)
+    requires first { from < length items.old }
+    requires second { to < length items.old }
+    ensures len { length items.new ≡ length items.old }
+    ensures after { items.new ≡ carried items.old from to }
+{
+    if from < to {
+        items[from..=to].rotate_left(1);
+    } else {
+        items[to..=from].rotate_right(1);
+    }
+}
+
+/// Takes the element at `from` out, and puts it in so that it stands at `to`.
+pub(crate) fn carry<F: Field>(row: &mut Row<F>, from: usize, to: usize)
+    requires first { from < length row.old }
+    requires second { to < length row.old }
+    ensures { row.new ≡ carried row.old from to }
+{
+    carry_in(row.as_mut_slice(), from, to);
 }

@@ -39,7 +39,7 @@ elements-are ws n v e f =
     ext_get_or 0 (elements ws n) v (long ∙ sym e) (λ i l. let k : i < n = omega (arith, long) in elements-at ws n i k ∙ f i k)
 
 -- bit j of word w is element 64 w + j
-element-of_word : (ws : List ℕ) (w j : ℕ) → j < 64 → element ws (64 * w + j) ≡ bit_at (get_or ws w 0) j
+pub element-of_word : (ws : List ℕ) (w j : ℕ) → j < 64 → element ws (64 * w + j) ≡ bit_at (get_or ws w 0) j
 element-of_word ws w j l =
     let word : (64 * w + j) / 64 ≡ w = omega arith in
     let bit : (64 * w + j) % 64 ≡ j = omega arith in

@@ -1,3 +1,5 @@
+pub mod Carries
 mod Chunks
 mod Elements
+mod Shifts
 pub mod Writes

@@ -1,2 +1,4 @@
+pub mod Carried
 pub mod Packed
+pub mod Shifts
 pub mod Words

@@ -4,6 +4,7 @@
 //! result of the plain one (`field_core`), for every length.
 #![tactic(auto)]
 
+mod carrying;
 mod lanes;
 mod packed;
 #[cfg(test)]

@@ -2,8 +2,11 @@
 
 ghost use Rattle.std.specs.Prelude.{◌≡◌, ◌<◌, ◌↔◌, IfOk, IsTrue, List, ℕ, map, length, slice_index, slice_set};
 ghost use Rattle.linear_algebra.specs.Vectors.{zero_vector, vector_sum, multiple};
+ghost use Rattle.packed_rows.specs.Carried.{carried};
 ghost use Rattle.packed_rows.specs.Packed.{ArePacked};
+ghost use Rattle.packed_rows.specs.Shifts.{AreShifted};
 
+use crate::carrying::shift;
 use crate::lanes::{add_words, have_no_bit};
 use field_core::Field;
 use small_fields::F2;
@@ -75,6 +78,28 @@ impl PackedF2 {
         if self.get(i).number() != value.number() {
             self.words[i / 64] ^= 1 << (i % 64);
         }
+    }
+
+    /// Gives each element from `from` on toward `to` the value of the next one.
+    fn shift(&mut self, from: usize, to: usize)
+        requires first { from < length self.old }
+        requires second { to < length self.old }
+        ensures count { length self.new ≡ length self.old }
+        ensures shifted { AreShifted from to (slice_index self.old) (slice_index self.new) }
+    {
+        shift(&mut self.words, from, to);
+    }
+
+    /// Takes the element at `from` out, and puts it in so that it stands at `to`; those between move by one place. It takes
+    /// no memory.
+    pub fn carry(&mut self, from: usize, to: usize)
+        requires first { from < length self.old }
+        requires second { to < length self.old }
+        ensures { self.new ≡ carried self.old from to }
+    {
+        let value = self.get(from);
+        self.shift(from, to);
+        self.put(to, value);
     }
 
     /// Adds `factor` times `source`.

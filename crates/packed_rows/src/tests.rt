@@ -74,3 +74,59 @@ fn ones_are_copied_at_each_length(rt: HostRuntime) -> Result<(), Fail> {
     }
     Ok(())
 }
+
+/// Carries an element of the row, which is long enough.
+fn carry(rt: &impl Abort, row: &mut PackedF2, from: usize, to: usize) {
+    assert!(rt; from < row.len());
+    assert!(rt; to < row.len());
+    row.carry(from, to);
+}
+
+/// Where an element that stands at `to` is after one has been carried there.
+fn after_carry(from: usize, to: usize) -> usize {
+    if from < to {
+        to - 1
+    } else if from > to {
+        to + 1
+    } else {
+        to
+    }
+}
+
+/// Asserts that a one is carried there and back, and what one that stands there becomes.
+fn assert_carried(
+    rt: &impl Abort,
+    alloc: Global,
+    len: usize,
+    from: usize,
+    to: usize,
+) -> Result<(), AllocError> {
+    let mut row = ones_at(alloc, len, &[from])?;
+    carry(rt, &mut row, from, to);
+    assert_ones_at(rt, &row, &[to]);
+    carry(rt, &mut row, to, from);
+    assert_ones_at(rt, &row, &[from]);
+    let mut other = ones_at(alloc, len, &[to])?;
+    carry(rt, &mut other, from, to);
+    assert_ones_at(rt, &other, &[after_carry(from, to)]);
+    Ok(())
+}
+
+#[test]
+fn ones_are_carried_across_the_words(rt: HostRuntime) -> Result<(), Fail> {
+    let alloc = rt.alloc();
+    for (len, from, to) in [
+        (1, 0, 0),
+        (64, 0, 63),
+        (64, 63, 62),
+        (65, 0, 64),
+        (65, 64, 63),
+        (130, 129, 0),
+        (130, 62, 65),
+        (130, 128, 64),
+        (130, 64, 127),
+    ] {
+        assert_carried(&rt, alloc, len, from, to)?;
+    }
+    Ok(())
+}
