@@ -13,6 +13,8 @@ class File:
     name: str
     words: tuple
     text: str = ""
+    # what the reply begins with, where that is known beforehand
+    wanted: str = ""
 
 
 def _spread(name, order, dimension, lines):
@@ -168,12 +170,40 @@ def glued_blocks(rng):
         yield name, problems.glued(rng, order, 128, blocks, size, lines, density)
 
 
+def _limit_problem(rng, order, dimension):
+    """2,048 dense lines, and how many of the first ones are taken for a set: half the dimension, which are independent in these."""
+    return problems.dense(rng, order, dimension, 2048, 0.6), dimension // 2
+
+
+def _positions(positions):
+    return " ".join(map(str, positions))
+
+
+def checks(rng):
+    """A set as large as the dimension allows, with one part, which makes a good answer, and with a part for each line, which doesn't."""
+    for order in (251, 256):
+        for name, parts, wanted in (("one part", [range(1, 2049)], "yes"), ("a part a line", [[n] for n in range(1, 2049)], "no bound")):
+            problem, size = _limit_problem(rng, order, 128)
+            certificate = "\n".join(["kernel 0", f"parts {len(parts)}", *(f"part {_positions(part)}" for part in parts), "end"])
+            answer = f"answer 1\nsize {size}\nset {_positions(range(1, size + 1))}\n{certificate}\n"
+            yield f"{order}, {name}", ("check",), problem.text() + answer, wanted
+
+
+def steps(rng):
+    """A set from which no step leads on, since one dimension is left over."""
+    for order in (251, 256):
+        problem, size = _limit_problem(rng, order, 127)
+        choice = f"choice 1\nsize {size}\nset {_positions(range(1, size + 1))}\nend\n"
+        yield f"{order}, no step", ("improve",), problem.text() + choice, "none"
+
+
+TEXTS = {"check": checks, "improve": steps}
 GRAPHS = {"matching": matchings, "cactus": cacti, "genus": genera, "spaths": paths}
 PROBLEMS = {
     "random lines": random_lines, "few points": few_points, "hubs": hubs, "nested hubs": nested_hubs,
     "flags and triangles": flags_and_triangles, "glued blocks": glued_blocks,
 }
-NAMES = ["sample", *GRAPHS, *PROBLEMS]
+NAMES = ["sample", *GRAPHS, *PROBLEMS, *TEXTS]
 
 
 def files_of(family):
@@ -182,6 +212,9 @@ def files_of(family):
     if family == "sample":
         for name, words, text in samples(rng):
             yield File(family, name, words, text)
+    elif family in TEXTS:
+        for name, words, text, wanted in TEXTS[family](rng):
+            yield File(family, name, words, text, wanted)
     elif family in GRAPHS:
         for name, vertices, edges, *classes in GRAPHS[family](rng):
             mixed = edges if classes else graphs.shuffled(rng, vertices, edges)

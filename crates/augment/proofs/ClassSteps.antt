@@ -5,6 +5,7 @@ use Rattle.field_core.specs.Matrix.{Matrix}
 use Rattle.linear_algebra.specs.Scalars.{IsField, Scalars}
 use Rattle.linear_algebra.specs.Vectors.{IsVector, zero_vector}
 use Rattle.matching_state.specs.Chosen.{Chosen}
+use Rattle.matching_state.specs.States.{IsStateOf}
 use Rattle.matching_state.specs.DirectSteps.{TellsDirectStep}
 use Rattle.matching_state.specs.Missing.{Misses}
 use Rattle.overlap.specs.PointedOverlaps.{IsOverlapAt, IsPoint, PointedOverlap}
@@ -17,8 +18,9 @@ use Rattle.classes.specs.Ends.{IsOverlapping, IsSetOf}
 use Rattle.classes.specs.Partitions.{HasGrown, HasNoCommon}
 use Rattle.augment.proofs.Meetings.{first_independent, first_size}
 use Rattle.augment.proofs.StepsModulo.{set_misses}
-use Rattle.search.proofs.FirstSets.{not_empty}
-use Rattle.search.specs.Found.{IsLargerThan, first_of}
+use Rattle.augment.proofs.FirstSets.{not_empty}
+use Rattle.augment.specs.FirstSets.{first_of}
+use Rattle.search.specs.Found.{IsLargerThan}
 
 module _ (S : Scalars) (f : SetFamily) (k : IsFamily S f) where
   -- parts of the right bound make a good answer, with no kernel
@@ -46,18 +48,18 @@ one_more k n m e f = e ∙ ap suc (sym f)
 
 -- a state of the set M: p is the problem of f
 module _ (S : Scalars) (f : SetFamily) (M : List ℕ) (p : ParityProblem) (e : p ≡ f.problem) (s : Chosen)
-    (d : s ≡ record { problem = p; set = M }) where
+    (d : IsStateOf p M s) where
   pub state_no_step : TellsDirectStep S f.problem M None → TellsDirectStep S s.problem s.set None
-  state_no_step h = subst (λ (t : Chosen). TellsDirectStep S t.problem t.set None) (sym d)
-      (subst (λ (q : ParityProblem). TellsDirectStep S q M None) (sym e) h)
+  state_no_step h = subst (λ L. TellsDirectStep S s.problem L None) (sym d.set)
+      (subst (λ (q : ParityProblem). TellsDirectStep S q M None) (sym (d.problem ∙ e)) h)
 
   -- an overlap over the state
   module _ (i j : ℕ) (o : PointedOverlap) (w : IsOverlapAt s.problem s.set i j o) where
     same : o.problem ≡ f.problem
-    same = w.problem ∙ ap (λ (t : Chosen). t.problem) d ∙ e
+    same = w.problem ∙ d.problem ∙ e
 
     pub as_long_as_set : (N : List ℕ) (n : ℕ) → n ≡ length N → length M ≡ n → length N ≡ length o.set
-    as_long_as_set N n a b = sym (b ∙ a) ∙ ap length (sym (w.set ∙ ap (λ (t : Chosen). t.set) d))
+    as_long_as_set N n a b = sym (b ∙ a) ∙ ap length (sym (w.set ∙ d.set))
 
     pub independent_here : (L : List ℕ) → IsIndependentSet S o.problem L → IsIndependentSet S f.problem L
     independent_here L i = subst (λ (q : ParityProblem). IsIndependentSet S q L) same i

@@ -7,7 +7,7 @@ use Rattle.linear_algebra.specs.Scalars.{Scalars}
 use Rattle.parity_lines.specs.LineSets.{IsIndependentSet}
 use Rattle.parity_lines.specs.Problems.{ParityProblem}
 use Rattle.augment.specs.Divided.{IsModulo, IsShortened}
-use Rattle.search.specs.Found.{first_of}
+use Rattle.augment.specs.FirstSets.{first_of}
 
 -- a family of q, each of whose sets is one line shorter than M
 pub record AreShortened (S : Scalars) (q : ParityProblem) (M : List ℕ) (f : SetFamily) : Type 0 where

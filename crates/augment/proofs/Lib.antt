@@ -1,3 +1,4 @@
+pub mod FirstSets
 pub mod Meetings
 pub mod StepsModulo
 pub mod ProblemsModulo
@@ -9,3 +10,4 @@ pub mod CommonPoints
 pub mod ClassSteps
 pub mod SetSizes
 pub mod FamiliesModulo
+pub mod NextSets

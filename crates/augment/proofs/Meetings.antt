@@ -13,8 +13,8 @@ use Rattle.parity_lines.specs.LineSets.{IsIndependentSet}
 use Rattle.parity_lines.specs.Problems.{IsProblem, ParityProblem, vectors_at}
 use Rattle.families.specs.Families.{IsCommon, IsFamily, SetFamily, Spans}
 use Rattle.augment.specs.Divided.{IsCommonPoint}
-use Rattle.search.proofs.FirstSets.{keeps_first, keeps_on, not_empty}
-use Rattle.search.specs.Found.{KeepsFirst, first_of}
+use Rattle.augment.proofs.FirstSets.{keeps_first, keeps_on, not_empty}
+use Rattle.augment.specs.FirstSets.{KeepsFirst, first_of}
 
 -- independent vectors that all sets span, and the sets, are together at most n
 abbrev pub IsBounded : Scalars → SetFamily → ℕ → Type 0

@@ -5,6 +5,7 @@ use Rattle.linear_algebra.specs.Spans.{Combines}
 use Rattle.linear_algebra.specs.Vectors.{IsVector, zero_vector}
 use Rattle.matching_state.proofs.Ties.{coordinates_vector}
 use Rattle.matching_state.specs.Chosen.{Chosen}
+use Rattle.matching_state.specs.States.{IsStateOf}
 use Rattle.matching_state.specs.Supports.{HasComponent}
 use Rattle.parity_lines.proofs.LineSets.{IsWithout}
 use Rattle.parity_lines.specs.LineSets.{IsIndependentSet}
@@ -15,10 +16,11 @@ use Rattle.augment.specs.Divided.{IsModulo, IsShortened}
 
 -- the coordinates cs of a point over a state, which is that of M; ds are the same
 module _ (S : Scalars) (F : IsField S) (p : ParityProblem) (P : IsProblem S p) (M : List ℕ) (a : IsIndependentSet S p M) (s : Chosen)
-    (e : s ≡ record { problem = p; set = M }) (cs point : List ℕ)
+    (e : IsStateOf p M s) (cs point : List ℕ)
     (h : Combines S s.problem.dimension (vectors_at s.problem s.set) cs point) where
   over : Combines S p.dimension (vectors_at p M) cs point
-  over = subst (λ (t : Chosen). Combines S t.problem.dimension (vectors_at t.problem t.set) cs point) e h
+  over = subst (λ L. Combines S p.dimension (vectors_at p L) cs point) e.set
+      (subst (λ (q : ParityProblem). Combines S q.dimension (vectors_at q s.set) cs point) e.problem h)
 
   pub coordinates_long : (n : ℕ) → n ≡ length cs → n ≡ 2 * length M
   coordinates_long n l = l ∙ (coordinates_vector S F p P M cs point over).length_is

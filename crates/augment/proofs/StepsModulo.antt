@@ -20,7 +20,8 @@ use Rattle.problem_quotients.specs.ProblemsModulo.{lifted_kernel}
 use Rattle.quotient_spaces.proofs.Pivots.{first_pivot_unique}
 use Rattle.augment.proofs.Meetings.{first_independent}
 use Rattle.augment.specs.Divided.{IsFamilyBelow, IsLiftedFrom, IsModulo, IsShortened}
-use Rattle.search.specs.Found.{IsLargerThan, MakesGoodAnswer, first_of}
+use Rattle.augment.specs.FirstSets.{first_of}
+use Rattle.search.specs.Found.{IsLargerThan, MakesGoodAnswer}
 
 -- an independent set misses a vector that it doesn't span
 pub set_misses : (S : Scalars) (F : IsField S) (p : ParityProblem) → IsProblem S p → (N v : List ℕ) → IsIndependentSet S p N →

@@ -9,7 +9,7 @@ use Rattle.parity_lines.specs.Problems.{ParityProblem}
 use Rattle.problem_quotients.specs.ProblemsModulo.{IsProblemModulo, lifted_kernel}
 use Rattle.quotient_spaces.specs.Projections.{IsFirstPivot, lifted}
 use Rattle.parity_lines.specs.declared.answer.Certificate.{Certificate}
-use Rattle.search.specs.Found.{first_of}
+use Rattle.augment.specs.FirstSets.{first_of}
 
 -- q is p modulo the point
 pub record IsModulo (S : Scalars) (point : List ℕ) (p q : ParityProblem) : Type 0 where

@@ -1,2 +1,3 @@
+pub mod FirstSets
 pub mod Steps
 pub mod Divided

@@ -7,7 +7,7 @@ ghost use Rattle.parity_lines.specs.Problems.{ParityProblem};
 ghost use Rattle.matching_state.specs.Supports.{HasComponent};
 ghost use Rattle.families.specs.Families.{Spans};
 ghost use Rattle.augment.specs.Divided.{IsCommonPoint, IsFamilyBelow, IsLiftedFrom, IsLiftedUpTo, IsModulo, IsShortened};
-ghost use Rattle.search.specs.Found.{first_of};
+ghost use Rattle.augment.specs.FirstSets.{first_of};
 
 use families::Family;
 use field_core::{Field, Rows, is_zero};

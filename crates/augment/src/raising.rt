@@ -4,7 +4,7 @@ ghost use Rattle.std.specs.Prelude.{◌≡◌, suc, IfOk, length};
 ghost use Rattle.classes.specs.Ends.{IsOverlapping};
 ghost use Rattle.classes.specs.Partitions.{HasNoCommon};
 ghost use Rattle.parity_lines.specs.LineSets.{IsIndependentSet};
-ghost use Rattle.search.specs.Found.{first_of};
+ghost use Rattle.augment.specs.FirstSets.{first_of};
 ghost use Rattle.augment.specs.Steps.{TellsStep};
 
 use crate::Step;

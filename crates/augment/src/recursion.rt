@@ -5,7 +5,7 @@ ghost use Rattle.classes.specs.Partitions.{HasNoCommon};
 ghost use Rattle.families.specs.Families.{IsFamily};
 ghost use Rattle.parity_lines.specs.Problems.{IsProblem};
 ghost use Rattle.augment.specs.Divided.{IsCommonPoint};
-ghost use Rattle.search.specs.Found.{first_of};
+ghost use Rattle.augment.specs.FirstSets.{first_of};
 ghost use Rattle.augment.specs.Steps.{TellsStep, TellsStepModulo};
 
 use crate::Step;
@@ -63,7 +63,10 @@ fn step_modulo<F: Field>(
 /// The step from the first set of the family. While the spans of its members meet in more than zero, a point of their
 /// meeting gives a certificate or one more member, that doesn't span the point.
 #[cycle(recursion)]
-fn step_by_meeting<F: Field>(family: &mut Family<'_, F>, way: Way) -> Result<Step<F>, AllocError>
+pub fn step_by_meeting<F: Field>(
+    family: &mut Family<'_, F>,
+    way: Way,
+) -> Result<Step<F>, AllocError>
     ensures { IfOk result (TellsStep F.scalars family.old.problem (first_of family.old)) }
 {
     let (_members, _lines) = (family.len(), family.problem().len());

@@ -23,7 +23,7 @@ use Rattle.parity_lines.specs.Relations.{IsMonicMultiple}
 use Rattle.parity_theory.proofs.Lines.{IsFree, Misses, vectors}
 use Rattle.parity_theory.proofs.Positions.{vector_of_line}
 use Rattle.parity_theory.proofs.Widths.{IsNarrow, IsWide, two_missed, wide_not_narrow}
-use Rattle.classes.proofs.Monics.{monic_entries, multiple_multiple, not_zero_of_monic, of_monic, same_monics, zero_of_length}
+use Rattle.matching_state.proofs.Monics.{monic_entries, multiple_multiple, not_zero_of_monic, of_monic, same_monics, zero_of_length}
 use Rattle.classes.specs.Directions.{AreApart, AreDirections, HaveResidues, IsAlong, IsDirection}
 use Rattle.classes.specs.declared.direction.Direction.{Direction}
 use Rattle.classes.specs.declared.direction.Direction.TheVariants.{Inside, Along}

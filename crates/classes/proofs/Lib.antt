@@ -1,4 +1,3 @@
-mod Monics
 mod DirectionLaws
 mod LabelLaws
 mod TableLaws

@@ -4,12 +4,14 @@ ghost use Rattle.std.specs.Prelude.{◌≡◌, ◌<◌, ◌↔◌, IfOk, IsTrue,
 ghost use Rattle.linear_algebra.specs.Scalars.{IsField};
 ghost use Rattle.linear_algebra.specs.Vectors.{zero_vector};
 ghost use Rattle.linear_algebra.proofs.Coordinates.{space};
+ghost use Rattle.field_core.specs.Matrix.{Matrix};
+ghost use Rattle.parity_lines.specs.Problems.{vectors_at};
 ghost use Rattle.parity_lines.specs.Relations.{IsMonicMultiple};
 ghost use Rattle.parity_lines.proofs.Border.{tuples_at};
 ghost use Rattle.parity_theory.proofs.Lines.{IsFree};
 ghost use Rattle.classes.specs.Directions.{AreApart, HaveResidues, IsDirection, TellsOutlook};
 
-use echelon::first_nonzero;
+use echelon::{Echelon, first_nonzero};
 use field_core::{Field, Row};
 use matching_state::Matched;
 use std::alloc::AllocError;
@@ -61,33 +63,37 @@ fn are_same<F: Field>(v: &[F], w: &[F]) -> bool
     true
 }
 
-/// The residues of both vectors of a line.
+/// The residues of both vectors of a line; `basis` is of the set's vectors.
 fn residues_of<F: Field>(
     state: &Matched<'_, F>,
+    basis: &Echelon<F>,
     line: usize,
 ) -> Result<(Row<F>, Row<F>), AllocError>
-    requires { line < length state.now.problem.lines }
+    requires line { line < length state.now.problem.lines }
+    requires basis { basis.now ≡ record { width = state.now.problem.dimension; rows = vectors_at state.now.problem state.now.set } }
     ensures { IfOk result (λ rows. HaveResidues F.scalars state.now.problem state.now.set line rows.0 rows.1) }
 {
     let problem = state.problem();
-    let first = state.residue(problem.first(line))?;
-    let second = state.residue(problem.second(line))?;
+    let first = basis.residue(problem.first(line))?;
+    let second = basis.residue(problem.second(line))?;
     Ok((first, second))
 }
 
-/// The direction of a line. `None` says that it is free.
+/// The direction of a line; `basis` is of the set's vectors. `None` says that the line is free.
 fn direction_of<F: Field>(
     state: &Matched<'_, F>,
+    basis: &Echelon<F>,
     line: usize,
 ) -> Result<Option<Direction<F>>, AllocError>
-    requires { line < length state.now.problem.lines }
+    requires line { line < length state.now.problem.lines }
+    requires basis { basis.now ≡ record { width = state.now.problem.dimension; rows = vectors_at state.now.problem state.now.set } }
     ensures { IfOk result (λ found. (L : IsField F.scalars) → MatchOption found
         (IsFree (space F.scalars L state.now.problem.dimension) (tuples_at F.scalars L state.now.problem) state.now.set line)
         (IsDirection F.scalars L state.now.problem state.now.set line)) }
 {
     let (problem, _set) = (state.problem(), state.set());
     let _lines = problem.len();
-    let (first_residue, second_residue) = residues_of(state, line)?;
+    let (first_residue, second_residue) = residues_of(state, basis, line)?;
     let first = monic(first_residue);
     let second = monic(second_residue);
     match first {
@@ -112,9 +118,10 @@ fn direction_of<F: Field>(
 pub fn directions<F: Field>(state: &Matched<'_, F>) -> Result<Outlook<F>, AllocError>
     ensures { IfOk result (λ outlook. (L : IsField F.scalars) → TellsOutlook F.scalars L state.now.problem state.now.set outlook) }
 {
+    let basis = state.echelon()?;
     let mut found = Vec::new(state.alloc());
     for line in 0..state.problem().len() {
-        match direction_of(state, line)? {
+        match direction_of(state, &basis, line)? {
             Some(direction) => found.push(direction)?,
             None => return Ok(Outlook::Free(line)),
         }

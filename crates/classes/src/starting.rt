@@ -7,7 +7,6 @@ ghost use Rattle.parity_lines.specs.Problems.{vectors_at};
 use echelon::{Echelon, Inserted};
 use field_core::Field;
 use matching_state::Matched;
-use parity_lines::{LineBasis, basis_of_lines};
 use std::alloc::AllocError;
 
 /// The basis that took the vectors of the set, and then one that the set misses.
@@ -17,13 +16,10 @@ pub fn basis_with<F: Field>(state: &Matched<'_, F>, q: &[F]) -> Result<Echelon<F
     ensures { IfOk result (λ basis.
         basis ≡ record { width = state.now.problem.dimension; rows = vectors_at state.now.problem state.now.set ++ map F.number q.now ∷ [] }) }
 {
-    let (problem, set) = (state.problem(), state.set());
-    let _lines = problem.len();
-    match basis_of_lines(state.alloc(), problem, set)? {
-        LineBasis::Basis(mut basis) => match basis.insert(q)? {
-            Inserted::New => Ok(basis),
-            Inserted::Old(_) => unreachable!(),
-        },
-        LineBasis::Relation(_) => unreachable!(),
+    let mut basis = state.echelon()?;
+    let _rank = basis.rank();
+    match basis.insert(q)? {
+        Inserted::New => Ok(basis),
+        Inserted::Old(_) => unreachable!(),
     }
 }

@@ -1,5 +1,5 @@
 -- Bases that grow by given vectors, one after the other, and the span that they come to have.
-use Rattle.std.proofs.Common.{◌≡◌, ℕ, ◌+◌, ◌<◌, List, [], ◌∷◌, ◌++◌, length, get_or, take, sym, ap, ap₂, ◌∙◌, subst, All}
+use Rattle.std.proofs.Common.{◌≡◌, ℕ, ◌+◌, ◌<◌, List, [], ◌∷◌, ◌++◌, length, get_or, take, sym, ap, ◌∙◌, subst, All}
 use Rattle.std.proofs.lemmas.List.{take_more}
 use Rattle.std.proofs.lemmas.List.Elements.{All-append, All-take, All-get_or}
 use Rattle.vector_spaces.proofs.Members.{In, all-In, In-append_left}
@@ -14,10 +14,6 @@ use Rattle.echelon.specs.Inserted.{Inserts}
 use Rattle.echelon.specs.declared.basis.Inserted.{Inserted}
 use Rattle.echelon.proofs.Growing.{grows-none, grows_more, spans-none, spans_more}
 use Rattle.exchanges.specs.Spans.{HasSpan}
-use Rattle.parity_lines.specs.Independence.{TellsBasis}
-use Rattle.parity_lines.specs.Problems.{ParityProblem, vectors_at}
-use Rattle.parity_lines.specs.declared.independence.LineBasis.{LineBasis}
-use Rattle.parity_lines.specs.declared.independence.LineBasis.TheVariants.{Basis}
 
 module _ (S : Scalars) (F : IsField S) where
   -- what the loop over the vectors keeps
@@ -64,11 +60,3 @@ module _ (S : Scalars) (F : IsField S) where
           λ c. span_through S F d (us ++ vs) after.rows x all rows_in (span_vector S F d (us ++ vs) x all c) spans c,
         );
       }
-
--- the basis of a set's vectors
-abbrev pub basis_of_set : ParityProblem → List ℕ → Matrix
-basis_of_set p M = record { width = p.dimension; rows = vectors_at p M }
-
-pub is_basis_of_set : {X : Type 0} (S : Scalars) (p q : ParityProblem) (M L : List ℕ) (found : LineBasis X) (basis : Matrix) → q ≡ p →
-    L ≡ M → TellsBasis S q L found → found ≡ Basis basis → basis ≡ basis_of_set p M
-is_basis_of_set S p q M L found basis e k t is = (subst (TellsBasis S q L) is t).1 ∙ ap₂ basis_of_set e k

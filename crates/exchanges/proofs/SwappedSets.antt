@@ -1,9 +1,7 @@
 -- An exposed line in the place of a line of its support.
-use Rattle.std.proofs.Common.{◌≡◌, ◌≢◌, ℕ, ◌<◌, ◌⊎◌, inl, inr, List, [], ◌∷◌, ◌++◌, length, subst, sym, All}
-use Rattle.std.specs.Prelude.{◌↔◌}
+use Rattle.std.proofs.Common.{ℕ, ◌<◌, ◌⊎◌, inl, inr, List, [], ◌∷◌, ◌++◌, length, subst, sym, All}
 use Rattle.std.specs.List.{Contains}
 use Rattle.std.specs.List.Sorted.{IsStrictlyIncreasing}
-use Rattle.std.proofs.lemmas.List.Elements.{Contains-get_or}
 use Rattle.vector_spaces.proofs.Members.{In-all, all-In, contains-In, In-contains}
 use Rattle.vector_spaces.proofs.Space.{Space}
 use Rattle.vector_spaces.proofs.Tuples.{Tuple}
@@ -31,18 +29,6 @@ use Rattle.parity_theory.proofs.Exposure.{Exposed}
 use Rattle.parity_theory.proofs.Lines.{vectors}
 use Rattle.parity_theory.proofs.Supports.{InSupport as InSupport_of}
 
--- the set without the one line, and then with the other
-pub swap_made : (M K N : List ℕ) (out into : ℕ) → Contains M out → ¬ (Contains M into) →
-    ((l : ℕ) → Contains K l ↔ (Contains M l × (l ≢ out))) → ((l : ℕ) → Contains N l ↔ (Contains K l ⊎ (l ≡ into))) → IsSwap M out into N
-swap_made M K N out into g n a b = record {
-  gone = g;
-  new = n;
-  lines = λ l. (
-    λ c. elim ((b l).0 c) [ inl j ↦ inl ((a l).0 j) | inr e ↦ inr e ],
-    λ c. (b l).1 (elim c as (λ _. Contains K l ⊎ (l ≡ into)) [ inl j ↦ inl ((a l).1 j) | inr e ↦ inr e ]),
-  );
-}
-
 module _ (S : Scalars) (F : IsField S) (p : ParityProblem) (P : IsProblem S p) (M : List ℕ) (i : IsIndependentSet S p M) (out into : ℕ)
     (h : into < length p.lines) (x : IsExposed S p M into) (k : InSupport S p M into out) where
   abbrev sp : Space (scalar_field S F) (Tuple (Element S) p.dimension)
@@ -60,14 +46,11 @@ module _ (S : Scalars) (F : IsField S) (p : ParityProblem) (P : IsProblem S p) (
   in_support_here : InSupport_of (scalar_field S F) out (pairs S F k.1) M
   in_support_here = component_in_support S F p P M k.1 out (coordinates_vector S F p P M k.1 k.0 k.2.combines) k.3
 
-  pub goes_out : Contains M out
-  goes_out = subst (λ l. Contains M l) k.3.line (Contains-get_or M k.3.index 0 k.3.within)
-
   pub comes_in : ¬ (Contains M into)
   comes_in = exposed_is_new S F p P M i into h x
 
   module _ (N : List ℕ) (w : IsSwap M out into N) where
-    pub within_after : All (λ m. m < length p.lines) N
+    within_after : All (λ m. m < length p.lines) N
     within_after = all-In (λ m. m < length p.lines) N (λ m j. elim ((w.lines m).0 (contains-In N m j)) as (λ _. m < length p.lines) [
       | inl c ↦ In-all (λ l. l < length p.lines) M i.line_set.within m (In-contains M m c.0)
       | inr e ↦ subst (λ l. l < length p.lines) (sym e) h

@@ -9,7 +9,6 @@ ghost use Rattle.exchanges.specs.Spans.{HasSpan};
 use echelon::Echelon;
 use field_core::{Field, Rows};
 use matching_state::Matched;
-use parity_lines::{LineBasis, basis_of_lines};
 use std::alloc::AllocError;
 
 /// Inserts the vectors, one after the other.
@@ -33,13 +32,9 @@ pub fn basis_with<F: Field>(
     requires { keep.now.width ≡ state.now.problem.dimension }
     ensures { IfOk result (HasSpan F.scalars state.now.problem.dimension (vectors_at state.now.problem state.now.set ++ keep.now.rows)) }
 {
-    let (problem, set) = (state.problem(), state.set());
-    let (_lines, _kept) = (problem.len(), keep.len());
-    match basis_of_lines(state.alloc(), problem, set)? {
-        LineBasis::Basis(mut basis) => {
-            insert_rows(&mut basis, keep)?;
-            Ok(basis)
-        }
-        LineBasis::Relation(_) => unreachable!(),
-    }
+    let _kept = keep.len();
+    let mut basis = state.echelon()?;
+    let _rank = basis.rank();
+    insert_rows(&mut basis, keep)?;
+    Ok(basis)
 }

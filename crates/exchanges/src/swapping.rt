@@ -1,28 +1,14 @@
 //! One exchange of lines.
 
-ghost use Rattle.std.specs.Prelude.{◌≡◌, ◌<◌, IfOk, OnOk, OnErr, length};
-ghost use Rattle.std.specs.List.{Contains};
-ghost use Rattle.std.specs.List.Sorted.{IsStrictlyIncreasing};
+ghost use Rattle.std.specs.Prelude.{◌≡◌, ◌<◌, OnOk, OnErr, length};
 ghost use Rattle.matching_state.specs.Overlaps.{InSupport};
 ghost use Rattle.matching_state.specs.LinePlaces.{IsExposed};
 ghost use Rattle.matching_state.specs.DirectSteps.{IsSwap};
 ghost use Rattle.parity_lines.specs.LineSets.{IsIndependentSet};
 
 use field_core::Field;
-use matching_state::{Matched, Start};
-use parity_lines::LineSet;
+use matching_state::Matched;
 use std::alloc::AllocError;
-
-/// The set with `into` in the place of `out`.
-fn swapped(set: &LineSet, out: usize, into: usize) -> Result<LineSet, AllocError>
-    requires gone { Contains set.now out }
-    requires new { ¬ (Contains set.now into) }
-    ensures increasing { IfOk result IsStrictlyIncreasing }
-    ensures swap { IfOk result (IsSwap set.now out into) }
-{
-    let rest = set.without(out)?;
-    rest.with(into)
-}
 
 /// Puts the exposed line `into` in the place of `out`, a line of its support. After want of memory the state is
 /// unchanged.
@@ -35,14 +21,5 @@ pub fn swap<F: Field>(state: &mut Matched<'_, F>, out: usize, into: usize) -> Re
     ensures ok { OnOk result (IsSwap state.old.set out into state.new.set) }
     ensures err { OnErr result (state.new ≡ state.old) }
 {
-    let (alloc, problem) = (state.alloc(), state.problem());
-    let _lines = problem.len();
-    let next = swapped(state.set(), out, into)?;
-    match Matched::start(alloc, problem, &next)? {
-        Start::Ready(moved) => {
-            *state = moved;
-            Ok(())
-        }
-        Start::Relation(_) => unreachable!(),
-    }
+    state.exchange(out, into)
 }

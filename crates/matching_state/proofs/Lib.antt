@@ -1,14 +1,32 @@
+pub mod Kept
+pub mod Orders
+pub mod Turns
+pub mod Listings
+pub mod Builds
+pub mod Reorders
+pub mod TailLaws
+pub mod TailSteps
 pub mod Ties
 pub mod Residues
-mod Ratios
+pub mod Monics
+pub mod Outsides
+pub mod Findings
 pub mod FoundSupports
-mod Findings
 pub mod Tips
 pub mod TipsOfTuples
+pub mod SightLaws
+pub mod Seen
 pub mod Products
-pub mod PairSearch
+pub mod PairTests
 pub mod StepSets
 pub mod OneStep
+pub mod Exchanged
+pub mod Moves
 pub mod DeterminantTies
+pub mod CrossLaws
+pub mod NumberLaws
+pub mod Tables
 pub mod Surveys
 pub mod DirectStep
+pub mod PlaceLaws
+pub mod SetsBetween

@@ -2,8 +2,8 @@
 use Rattle.std.proofs.Common.{◌≡◌, ◌≢◌, ℕ, List, [], ◌∷◌, ◌++◌, sym, ap, ap₂, ◌∙◌, subst, arith, append_assoc}
 use Rattle.std.proofs.lemmas.List.{get_or-map}
 use Rattle.vector_spaces.proofs.Independence.{IsIndependent as IsIndependent_of, append_outside, appended_is_outside}
-use Rattle.vector_spaces.proofs.Space.{Space}
-use Rattle.vector_spaces.proofs.Span.{InSpan as InSpan_of, span_plus, span_scale}
+use Rattle.vector_spaces.proofs.Space.{Space, move}
+use Rattle.vector_spaces.proofs.Span.{InSpan as InSpan_of, span_minus, span_null, span_plus, span_scale}
 use Rattle.vector_spaces.proofs.Splits.{span_split}
 use Rattle.vector_spaces.proofs.Tuples.{Tuple}
 use Rattle.vector_spaces.proofs.Within.{head_in, left_in, right_in}
@@ -13,7 +13,7 @@ use Rattle.linear_algebra.proofs.Combinations.{span_vector}
 use Rattle.linear_algebra.proofs.Coordinates.{tuple, space, list, list-vector, list-is, list-tuple, tuple-list, list-scale, element, list-plus}
 use Rattle.linear_algebra.proofs.Elements.{Element, scalar_field, product-zero}
 use Rattle.linear_algebra.proofs.SpanLaws.{span_multiple}
-use Rattle.linear_algebra.proofs.VectorLaws.{tuple-sum, tuple-multiple, multiple-vector, list-multiple}
+use Rattle.linear_algebra.proofs.VectorLaws.{tuple-sum, tuple-multiple, tuple-zero, multiple-vector, list-multiple}
 use Rattle.echelon.specs.Residues.{IsResidue, IsCongruent}
 use Rattle.echelon.proofs.Cosets.{congruent_residues, same_residue, spanned_residue}
 use Rattle.matching_state.specs.LinePlaces.{InSet}
@@ -57,6 +57,14 @@ module _ (S : Scalars) (F : IsField S) (p : ParityProblem) (P : IsProblem S p) (
 
   pub residue_tuple : (u a : List ℕ) → IsVector S p.dimension u → (r : IsResidue S p.dimension (vectors_at p M) u a) → as_tuple a ≡ sp.◌⊕◌ (as_tuple u) (as_tuple r.added)
   residue_tuple u a k r = ap as_tuple r.sum ∙ tuple-sum S F p.dimension u r.added k (span_vector S F p.dimension (vectors_at p M) r.added set_vectors r.in_span)
+
+  -- a vector whose residue is zero is in the span
+  pub inside_of_zero : (u a : List ℕ) → IsVector S p.dimension u → IsResidue S p.dimension (vectors_at p M) u a → a ≡ zero_vector S p.dimension → InSet S p M u
+  inside_of_zero u a h r z =
+      let y : Tuple (Element S) p.dimension = as_tuple r.added in
+      let e : sp.null ≡ sp.◌⊕◌ (as_tuple u) y = sym (tuple-zero S F p.dimension) ∙ ap as_tuple (sym z) ∙ residue_tuple u a h r in
+      span_from S F p P M u i.line_set.within h (subst (λ t. InSpan_of sp (vectors line M) t) (move (scalar_field S F) sp sp.null y (as_tuple u) e)
+      (span_minus (scalar_field S F) sp (vectors line M) sp.null y (span_null (scalar_field S F) sp (vectors line M)) (span_to S F p P M r.added i.line_set.within r.in_span)))
 
   -- a vector with a residue that isn't zero is missed
   pub outside_of_residue : (u a : List ℕ) → IsVector S p.dimension u → IsResidue S p.dimension (vectors_at p M) u a → a ≢ zero_vector S p.dimension → ¬ (InSet S p M u)

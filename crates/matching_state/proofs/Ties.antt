@@ -12,7 +12,7 @@ use Rattle.linear_algebra.specs.Scalars.{Scalars, IsScalar, IsField}
 use Rattle.linear_algebra.specs.Spans.{combination, Combines, InSpan, IsIndependent}
 use Rattle.linear_algebra.specs.Vectors.{IsVector, AreVectors, zero_vector, vector_sum, multiple}
 use Rattle.linear_algebra.proofs.Combinations.{combination-vector, span_vector}
-use Rattle.linear_algebra.proofs.Coordinates.{tuple, element, element-number, element-zero, space, list, list-is, list-null}
+use Rattle.linear_algebra.proofs.Coordinates.{tuple, element, element-number, element-zero, space, list-is, list-null}
 use Rattle.linear_algebra.proofs.Elements.{Element, scalar_field}
 use Rattle.linear_algebra.proofs.RankLaws.{rank_le_length}
 use Rattle.linear_algebra.proofs.Transfer.{tuples_of, span_to_tuples, span_from_tuples, independent_to_tuples, independent_from_tuples}

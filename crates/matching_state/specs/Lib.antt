@@ -3,8 +3,9 @@ pub mod Bases
 pub mod Supports
 pub mod LinePlaces
 pub mod Missing
-pub mod Exposures
 pub mod DirectSteps
+pub mod Sights
+pub mod Classes
 pub mod Pairs
 pub mod Surveys
 pub mod States

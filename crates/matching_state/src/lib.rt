@@ -11,12 +11,16 @@
 //! and `proofs/OneStep.antt` have the laws.
 #![tactic(auto)]
 
-mod exposure;
+mod coefficients;
 mod finding;
+mod going;
 mod laws;
+mod listing;
 mod matched;
+mod moving;
+mod outer_classes;
 mod place;
-mod ratio;
+mod sights;
 mod step;
 
 pub use laws::{
@@ -25,3 +29,4 @@ pub use laws::{
 };
 pub use matched::{Matched, Start};
 pub use place::Place;
+pub use sights::Exposed;

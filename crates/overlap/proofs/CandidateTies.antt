@@ -9,8 +9,7 @@ use Rattle.linear_algebra.specs.Vectors.{IsVector, AreVectors, multiple}
 use Rattle.linear_algebra.proofs.VectorLaws.{multiple-vector, vector_sum-zero}
 use Rattle.matching_state.specs.Overlaps.{IsOverlap}
 use Rattle.matching_state.specs.LinePlaces.{IsExposed}
-use Rattle.matching_state.proofs.DirectStep.{inside_of_zero}
-use Rattle.matching_state.proofs.Residues.{missed_together, not_missed_together}
+use Rattle.matching_state.proofs.Residues.{inside_of_zero, missed_together, not_missed_together}
 use Rattle.matching_state.proofs.Ties.{in_line_vector, misses_to, misses_from}
 use Rattle.matching_state.proofs.Tips.{overlap_tells, overlap_told}
 use Rattle.overlap.specs.Candidates.{IsCandidate, AreCandidates, DoOverlap, HaveOverlap}

@@ -15,6 +15,7 @@ use Rattle.exchanges.specs.Exchanges.{IsSettled, StillMisses}
 use Rattle.exchanges.proofs.SettledSets.{settled_tuples}
 use Rattle.field_core.specs.Matrix.{Matrix}
 use Rattle.matching_state.specs.Chosen.{Chosen}
+use Rattle.matching_state.specs.States.{IsStateOf}
 use Rattle.matching_state.specs.Missing.{Misses}
 use Rattle.matching_state.specs.Overlaps.{IsOverlap}
 use Rattle.matching_state.proofs.Ties.{span_to, misses_to}
@@ -105,14 +106,14 @@ module _ (S : Scalars) (F : IsField S) (p : ParityProblem) (P : IsProblem S p) (
         never_settles N kept.independent (kept.as_long ∙ len) kept.missed settled
 
     -- the same of a state that is made for a problem q, which is p, and a set K, where keep has the point alone, as it is seen
-    pub within_state : (state : Chosen) (q : ParityProblem) (K : List ℕ) → state ≡ record { problem = q; set = K } → q ≡ p →
+    pub within_state : (state : Chosen) (q : ParityProblem) (K : List ℕ) → IsStateOf q K state → q ≡ p →
         All (λ m. m < length state.problem.lines) T
     within_state state q K is is_p =
-        subst (λ (r : ParityProblem). All (λ m. m < length r.lines) T) (sym (ap (λ (s : Chosen). s.problem) is ∙ is_p)) target_within
+        subst (λ (r : ParityProblem). All (λ m. m < length r.lines) T) (sym (is.problem ∙ is_p)) target_within
 
     pub state_never_settles : (state : Chosen) (q : ParityProblem) (K N : List ℕ) (keep : Matrix) (seen : List ℕ) (n : ℕ) →
-        state ≡ record { problem = q; set = K } → q ≡ p → keep ≡ record { width = n; rows = seen ∷ [] } → seen ≡ point →
+        IsStateOf q K state → q ≡ p → keep ≡ record { width = n; rows = seen ∷ [] } → seen ≡ point →
         length K ≡ length M → StillMisses S state.problem keep.rows state.set N → ¬ (IsSettled S state.problem keep.rows T N)
     state_never_settles state q K N keep seen n is is_p is_keep is_seen len k s =
-        walk_never_settles state.set N keep.rows state.problem (ap (λ (s : Chosen). s.problem) is ∙ is_p)
-        (ap (λ (m : Matrix). m.rows) is_keep ∙ ap (λ (v : List ℕ). v ∷ []) is_seen) (ap (λ (s : Chosen). length s.set) is ∙ len) k s
+        walk_never_settles state.set N keep.rows state.problem (is.problem ∙ is_p)
+        (ap (λ (m : Matrix). m.rows) is_keep ∙ ap (λ (v : List ℕ). v ∷ []) is_seen) (ap length is.set ∙ len) k s

@@ -2,8 +2,11 @@
 
 ghost use Rattle.std.specs.Prelude.{◌≡◌, ◌<◌, IfOk, MatchOption, length};
 ghost use Rattle.matching_state.specs.LinePlaces.{IsExposed};
+ghost use Rattle.field_core.specs.Matrix.{Matrix};
+ghost use Rattle.parity_lines.specs.Problems.{vectors_at};
 ghost use Rattle.overlap.specs.Candidates.{IsCandidate, AreCandidates};
 
+use echelon::Echelon;
 use field_core::{Field, Row};
 use matching_state::{Matched, Place};
 use parity_lines::LineSet;
@@ -17,12 +20,14 @@ pub struct Candidate<F: Field> {
     pub residue: Row<F>,
 }
 
-/// The line, where it is exposed.
+/// The line, where it is exposed; `basis` is of the set's vectors.
 fn candidate_at<F: Field>(
     state: &Matched<'_, F>,
+    basis: &Echelon<F>,
     line: usize,
 ) -> Result<Option<Candidate<F>>, AllocError>
-    requires { line < length state.now.problem.lines }
+    requires line { line < length state.now.problem.lines }
+    requires basis { basis.now ≡ record { width = state.now.problem.dimension; rows = vectors_at state.now.problem state.now.set } }
     ensures { IfOk result (λ found. MatchOption found (¬ (IsExposed F.scalars state.now.problem state.now.set line))
         (λ x. (x.line ≡ line) × IsCandidate F.scalars state.now.problem state.now.set x)) }
 {
@@ -34,7 +39,7 @@ fn candidate_at<F: Field>(
         Place::Exposed { outer, support, .. } => Ok(Some(Candidate {
             line,
             support,
-            residue: state.residue(outer.as_slice())?,
+            residue: basis.residue(outer.as_slice())?,
         })),
     }
 }
@@ -43,9 +48,10 @@ fn candidate_at<F: Field>(
 pub fn candidates<F: Field>(state: &Matched<'_, F>) -> Result<Vec<Candidate<F>>, AllocError>
     ensures { IfOk result (λ xs. AreCandidates F.scalars state.now.problem state.now.set (length state.now.problem.lines) xs.items) }
 {
+    let basis = state.echelon()?;
     let mut found = Vec::new(state.alloc());
     for line in 0..state.problem().len() {
-        if let Some(candidate) = candidate_at(state, line)? {
+        if let Some(candidate) = candidate_at(state, &basis, line)? {
             found.push(candidate)?;
         }
     }

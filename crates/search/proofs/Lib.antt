@@ -1,5 +1,8 @@
-pub mod FirstSets
 pub mod Lengths
+pub mod Lists
 pub mod PartsBelow
 pub mod Ranges
-pub mod TakenLines
+pub mod FirstLines
+pub mod Sizes
+pub mod Starts
+pub mod Walked

@@ -1,4 +1,8 @@
 pub mod Found
-pub mod Taken
+pub mod Meetings
+pub mod Notes
+pub mod Walks
+pub mod Walkers
+pub mod Repeats
 pub mod Below
 pub mod Gathering

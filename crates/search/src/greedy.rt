@@ -1,12 +1,10 @@
 //! Independent sets that are taken line by line.
 
 ghost use Rattle.std.specs.List.{range_with_len};
-ghost use Rattle.std.specs.Prelude.{◌≡◌, ◌∷◌, ◌++◌, [], ◌<◌, All, IfOk, length};
-ghost use Rattle.parity_lines.specs.LineSets.{IsIndependentSet};
-ghost use Rattle.search.specs.Taken.{TellsTaken};
+ghost use Rattle.std.specs.Prelude.{◌≡◌, ◌<◌, All, IfOk, length};
 
-use echelon::{Echelon, Inserted};
 use field_core::Field;
+use matching_state::Matched;
 use parity_lines::{LineSet, Problem};
 use std::alloc::{AllocError, Global};
 
@@ -22,44 +20,29 @@ pub fn lines_below(alloc: Global, count: usize) -> Result<LineSet, AllocError>
     Ok(set)
 }
 
-/// Takes both vectors of the line, or none where the basis doesn't miss them together.
-fn takes_line<F: Field>(
-    basis: &mut Echelon<F>,
-    problem: &Problem<F>,
-    line: usize,
-) -> Result<bool, AllocError>
-    requires line { line < length problem.now.lines }
-    requires width { basis.old.width ≡ problem.now.dimension }
-    ensures { IfOk result (TellsTaken problem.now line basis.old basis.new) }
+/// Puts in the line, where it is free.
+fn insert_free<F: Field>(state: &mut Matched<'_, F>, line: usize) -> Result<(), AllocError>
+    requires { line < length state.old.problem.lines }
+    ensures { state.new.problem ≡ state.old.problem }
 {
-    let kept = basis.rank();
-    if let Inserted::Old(_) = basis.insert(problem.first(line))? {
-        return Ok(false);
+    if state.is_free(line) {
+        state.insert(line)?;
     }
-    if let Inserted::Old(_) = basis.insert(problem.second(line))? {
-        basis.truncate(kept);
-        return Ok(false);
-    }
-    Ok(true)
+    Ok(())
 }
 
-/// The lines that are taken in order, each where those taken before leave it free.
-pub fn greedy_set<F: Field>(
+/// The state of lines that are taken in order, each where those taken before leave it free.
+pub fn greedy_state<'a, F: Field>(
     alloc: Global,
-    problem: &Problem<F>,
+    problem: &'a Problem<F>,
     lines: &LineSet,
-) -> Result<LineSet, AllocError>
+) -> Result<Matched<'a, F>, AllocError>
     requires { All (λ m. m < length problem.now.lines) lines.now }
-    ensures { IfOk result (IsIndependentSet F.scalars problem.now) }
+    ensures { IfOk result (λ state. state.problem ≡ problem.now) }
 {
-    let mut basis = Echelon::new(alloc, problem.dimension())?;
-    let mut set = LineSet::new(alloc);
+    let mut state = Matched::started(alloc, problem, &LineSet::new(alloc))?;
     for i in 0..lines.len() {
-        let line = lines.at(i);
-        if takes_line(&mut basis, problem, line)? {
-            set.push(line)?;
-        }
+        insert_free(&mut state, lines.at(i))?;
     }
-    let (_rank, _lines) = (basis.rank(), set.len());
-    Ok(set)
+    Ok(state)
 }

@@ -1,19 +1,21 @@
 //! Certificates that are guessed, and accepted where their verdict is that they are good.
 
-ghost use Rattle.std.specs.Prelude.{◌≡◌, [], ◌≤◌, ◌<◌, All, IfOk, IfSome, length};
-ghost use Rattle.parity_lines.specs.Certificates.{IsGoodAnswer};
+ghost use Rattle.std.specs.Prelude.{◌≡◌, ◌<◌, All, IfOk, IfSome, length};
 ghost use Rattle.parity_lines.specs.LineSets.{IsIndependentSet};
 ghost use Rattle.search.specs.Below.{ArePartsBelow};
-ghost use Rattle.search.specs.Found.{MakesGoodAnswer, first_of};
+ghost use Rattle.search.specs.Found.{MakesGoodAnswer};
+ghost use Rattle.search.specs.Notes.{AreOf};
+ghost use Rattle.search.specs.Walkers.{IsOf, IsReady};
 
-use crate::greedy::{greedy_set, lines_below};
+use crate::greedy::{greedy_state, lines_below};
 use crate::kernel::kernel_within;
-use crate::labels::{labels_over, parts_of, push_part};
+use crate::labels::{Labels, push_part};
+use crate::meeting::Meeting;
+use crate::settling::settle;
+use crate::walker::Walker;
 use cert_check::{Verdict, verdict};
-use echelon::{Echelon, basis_of};
-use families::Family;
+use echelon::{Echelon, Inserted, basis_of};
 use field_core::{Field, Rows};
-use matching_state::Matched;
 use parity_lines::{Answer, Certificate, LineSet, Parts, Problem};
 use std::alloc::{AllocError, Global};
 
@@ -39,23 +41,59 @@ fn accepted<F: Field>(
     }
 }
 
-/// The certificate with an empty kernel and all lines in one part, for the first set of the family.
+/// Whether the vectors of all lines have a rank of at most `most`.
+fn has_rank_within<F: Field>(
+    alloc: Global,
+    problem: &Problem<F>,
+    most: usize,
+) -> Result<bool, AllocError> {
+    if most >= problem.dimension() {
+        return Ok(true);
+    }
+    let mut basis = Echelon::new(alloc, problem.dimension())?;
+    for line in 0..problem.len() {
+        let _first: Inserted<F> = basis.insert(problem.first(line))?;
+        let _second: Inserted<F> = basis.insert(problem.second(line))?;
+        if basis.rank() > most {
+            return Ok(false);
+        }
+    }
+    Ok(true)
+}
+
+/// The certificate with an empty kernel and all lines in one part.
 pub fn guess_one_part<F: Field>(
-    family: &Family<'_, F>,
+    alloc: Global,
+    problem: &Problem<F>,
+    set: &LineSet,
 ) -> Result<Option<Certificate<F>>, AllocError>
-    ensures { IfOk result (λ found. IfSome found (MakesGoodAnswer F.scalars family.now.problem (first_of family.now))) }
+    requires { IsIndependentSet F.scalars problem.now set.now }
+    ensures { IfOk result (λ found. IfSome found (MakesGoodAnswer F.scalars problem.now set.now)) }
 {
-    let (alloc, problem) = (family.alloc(), family.problem());
-    let _members = family.len();
+    let most = set.len().saturating_mul(2).saturating_add(1);
+    if !has_rank_within(alloc, problem, most)? {
+        return Ok(None);
+    }
     let mut parts = Parts::new(alloc);
     push_part(&mut parts, lines_below(alloc, problem.len())?)?;
     let kernel = Rows::new(alloc, problem.dimension());
-    accepted(
-        alloc,
-        problem,
-        family.member(0),
-        Certificate { kernel, parts },
-    )
+    accepted(alloc, problem, set, Certificate { kernel, parts })
+}
+
+/// The certificate with an empty kernel and the classes that the walker's set shows.
+pub fn guess_seen<F: Field>(
+    problem: &Problem<F>,
+    set: &LineSet,
+    walker: &Walker<'_, F>,
+) -> Result<Option<Certificate<F>>, AllocError>
+    requires set { IsIndependentSet F.scalars problem.now set.now }
+    requires walker { IsOf F.scalars problem.now set.now walker.now }
+    ensures { IfOk result (λ found. IfSome found (MakesGoodAnswer F.scalars problem.now set.now)) }
+{
+    let alloc = walker.state.alloc();
+    let parts = walker.parts(&walker.seen()?)?;
+    let kernel = Rows::new(alloc, problem.dimension());
+    accepted(alloc, problem, set, Certificate { kernel, parts })
 }
 
 /// The problem of the lines' residues modulo a subspace.
@@ -77,43 +115,79 @@ fn problem_of_residues<F: Field>(
     Ok(residues)
 }
 
-/// Makes direct steps from the set while there are any.
-fn settle<F: Field>(
-    alloc: Global,
+/// The certificate of the classes over the residues, where it makes a good answer.
+fn judged<F: Field>(
     problem: &Problem<F>,
-    set: &mut LineSet,
-) -> Result<(), AllocError>
-    requires { IsIndependentSet F.scalars problem.now set.old }
-    ensures { IsIndependentSet F.scalars problem.now set.new }
+    set: &LineSet,
+    walker: &Walker<'_, F>,
+    labels: &Labels,
+) -> Result<Option<Certificate<F>>, AllocError>
+    requires set { IsIndependentSet F.scalars problem.now set.now }
+    requires dimension { walker.now.state.problem.dimension ≡ problem.now.dimension }
+    requires lines { length walker.now.state.problem.lines ≡ length problem.now.lines }
+    requires ready { IsReady F.scalars walker.now }
+    requires labels { AreOf (length walker.now.state.problem.lines) labels.now }
+    ensures { IfOk result (λ found. IfSome found (MakesGoodAnswer F.scalars problem.now set.now)) }
 {
-    for _step in 0..problem.len() {
-        let state = Matched::started(alloc, problem, set)?;
-        match state.direct_step()? {
-            Some(larger) => *set = larger,
-            None => return Ok(()),
-        }
-    }
-    Ok(())
+    let alloc = walker.state.alloc();
+    let parts = walker.parts(labels)?;
+    let kernel = kernel_within(alloc, problem, walker.state.problem(), &parts)?;
+    accepted(alloc, problem, set, Certificate { kernel, parts })
 }
 
-/// The classes of the lines modulo the meeting of the family's spans, and the vectors of the meeting that single
-/// classes span.
-pub fn guess<F: Field>(family: &Family<'_, F>) -> Result<Option<Certificate<F>>, AllocError>
-    ensures { IfOk result (λ found. IfSome found (MakesGoodAnswer F.scalars family.now.problem (first_of family.now))) }
+/// The certificate of the classes after one more walk over the residues, which begins anew with each longer set of these.
+fn judged_after_walk<F: Field>(
+    problem: &Problem<F>,
+    set: &LineSet,
+    walker: &mut Walker<'_, F>,
+) -> Result<Option<Certificate<F>>, AllocError>
+    requires set { IsIndependentSet F.scalars problem.now set.now }
+    requires dimension { walker.old.state.problem.dimension ≡ problem.now.dimension }
+    requires lines { length walker.old.state.problem.lines ≡ length problem.now.lines }
+    requires ready { IsReady F.scalars walker.old }
+    ensures residues { IfOk result (λ _. walker.new.state.problem ≡ walker.old.state.problem) }
+    ensures ready { IfOk result (λ _. IsReady F.scalars walker.new) }
+    ensures good { IfOk result (λ found. IfSome found (MakesGoodAnswer F.scalars problem.now set.now)) }
 {
-    let (alloc, problem) = (family.alloc(), family.problem());
-    let _members = family.len();
-    let meeting = basis_of(alloc, family.common().basis())?;
-    let residues = problem_of_residues(alloc, problem, &meeting)?;
-    let mut set = greedy_set(alloc, &residues, family.member(0))?;
-    settle(alloc, &residues, &mut set)?;
-    let labels = labels_over(alloc, &residues, &set)?;
-    let parts = parts_of(alloc, &labels)?;
-    let kernel = kernel_within(alloc, problem, &residues, &parts)?;
-    accepted(
-        alloc,
-        problem,
-        family.member(0),
-        Certificate { kernel, parts },
-    )
+    let alloc = walker.state.alloc();
+    for _longer in 0..problem.len() {
+        let mut meeting = Meeting::whole(alloc, walker.state.set().len())?;
+        match walker.walk(&mut meeting)? {
+            Some(larger) => walker.rise(&larger)?,
+            None => return judged(problem, set, walker, &walker.notes.labels),
+        }
+    }
+    Ok(None)
+}
+
+/// The classes of the lines modulo the vectors, and what single classes span of these: at one set, after a walk, and
+/// after further walks from sets at random.
+pub fn guess<F: Field>(
+    alloc: Global,
+    problem: &Problem<F>,
+    set: &LineSet,
+    vectors: &Rows<F>,
+    walks: usize,
+) -> Result<Option<Certificate<F>>, AllocError>
+    requires set { IsIndependentSet F.scalars problem.now set.now }
+    requires width { vectors.now.width ≡ problem.now.dimension }
+    ensures { IfOk result (λ found. IfSome found (MakesGoodAnswer F.scalars problem.now set.now)) }
+{
+    let residues = problem_of_residues(alloc, problem, &basis_of(alloc, vectors)?)?;
+    let mut state = greedy_state(alloc, &residues, set)?;
+    settle(&mut state)?;
+    let mut walker = Walker::new(state, walks, true)?;
+    if let Some(certificate) = judged(problem, set, &walker, &walker.seen()?)? {
+        return Ok(Some(certificate));
+    }
+    if let Some(certificate) = judged_after_walk(problem, set, &mut walker)? {
+        return Ok(Some(certificate));
+    }
+    for _turn in 0..walks {
+        walker.scatter()?;
+        if let Some(certificate) = judged_after_walk(problem, set, &mut walker)? {
+            return Ok(Some(certificate));
+        }
+    }
+    Ok(None)
 }

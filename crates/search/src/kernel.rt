@@ -5,7 +5,7 @@ ghost use Rattle.search.specs.Below.{ArePartsBelow};
 ghost use Rattle.search.specs.Gathering.{Fits};
 
 use echelon::{Echelon, Inserted};
-use field_core::{Field, Row, Rows};
+use field_core::{Field, Row, Rows, is_zero};
 use parity_lines::{LineSet, Parts, Problem};
 use std::alloc::{AllocError, Global};
 
@@ -60,6 +60,29 @@ fn gather<F: Field>(
     }
 }
 
+/// Takes the vectors of a line, unless both residues are zero: such lines cost less in a part of their own than what
+/// they span.
+fn gather_line<F: Field>(
+    alloc: Global,
+    gathering: &mut Gathering<F>,
+    problem: &Problem<F>,
+    residues: &Problem<F>,
+    line: usize,
+) -> Result<(), AllocError>
+    requires fits { Fits gathering.old problem.now.dimension }
+    requires dimension { residues.now.dimension ≡ problem.now.dimension }
+    requires lines { length residues.now.lines ≡ length problem.now.lines }
+    requires line { line < length problem.now.lines }
+    ensures { IfOk result (λ _. Fits gathering.new problem.now.dimension) }
+{
+    let (first, second) = (residues.first(line), residues.second(line));
+    if is_zero(first) && is_zero(second) {
+        return Ok(());
+    }
+    gather(alloc, gathering, problem.first(line), first)?;
+    gather(alloc, gathering, problem.second(line), second)
+}
+
 /// Takes the vectors of a part.
 fn gather_part<F: Field>(
     alloc: Global,
@@ -77,19 +100,13 @@ fn gather_part<F: Field>(
     gathering.residues.truncate(0);
     gathering.taken = Rows::new(alloc, problem.dimension());
     for i in 0..part.len() {
-        let line = part.at(i);
-        gather(alloc, gathering, problem.first(line), residues.first(line))?;
-        gather(
-            alloc,
-            gathering,
-            problem.second(line),
-            residues.second(line),
-        )?;
+        gather_line(alloc, gathering, problem, residues, part.at(i))?;
     }
     Ok(())
 }
 
-/// Vectors whose residues are zero: a basis of the sum of what the parts span of them.
+/// Vectors whose residues are zero: a basis of the sum of what the parts span of them, lines apart whose residues are all
+/// zero.
 pub fn kernel_within<F: Field>(
     alloc: Global,
     problem: &Problem<F>,

@@ -1,150 +1,172 @@
 //! Lines in classes, by labels: the lines that supports join.
 
-ghost use Rattle.std.specs.Prelude.{◌≡◌, ◌≢◌, [], ◌∷◌, ◌++◌, ◌⊎◌, ◌*◌, ◌<◌, All, IfOk, length};
-ghost use Rattle.parity_lines.specs.LineSets.{IsIndependentSet};
+ghost use Rattle.std.specs.Prelude.{◌≡◌, ◌⊎◌, ◌∷◌, ◌++◌, [], ◌<◌, ℕ, All, IfOk, length};
+ghost use Rattle.matching_state.specs.Sights.{IsSeen};
 ghost use Rattle.search.specs.Below.{ArePartsBelow};
+ghost use Rattle.search.specs.Notes.{AreOf};
 
-use crate::spanned::{coordinates_over, tip_of};
-use field_core::{Field, Rows, is_zero};
-use matching_state::Matched;
-use parity_lines::{LineSet, Parts, Problem, rank_over};
+use field_core::{Field, is_zero};
+use matching_state::{Exposed, Matched};
+use parity_lines::{LineSet, Parts};
 use std::alloc::{AllocError, Global};
 
-/// Gives both lines' classes one label, the smaller.
-fn join(labels: &mut [usize], first: usize, second: usize)
-    requires first { first < length labels.old }
-    requires second { second < length labels.old }
+/// Whether the line's vectors span more than zero, and no plane.
+fn has_rank_one<F: Field>(state: &Matched<'_, F>, line: usize) -> bool
+    requires { line < length state.now.problem.lines }
 {
-    let (a, b) = (labels[first], labels[second]);
-    let (kept, gone) = if a < b { (a, b) } else { (b, a) };
-    if kept != gone {
-        for label in labels.iter_mut() {
+    let problem = state.problem();
+    let none = is_zero(problem.first(line)) && is_zero(problem.second(line));
+    !none && !state.has_rank_two(line)
+}
+
+/// A label for each line, the least line of its class, and whether the line was seen outside of a span.
+#[derive(Drop)]
+pub struct Labels {
+    labels: Vec<usize>,
+    outside: Vec<bool>,
+}
+
+impl Labels {
+    /// Each line in a class of its own.
+    pub fn new(alloc: Global, lines: usize) -> Result<Labels, AllocError>
+        ensures { IfOk result (AreOf lines) }
+    {
+        let mut labels = Vec::new(alloc);
+        let mut outside = Vec::new(alloc);
+        for line in 0..lines {
+            labels.push(line)?;
+            outside.push(false)?;
+        }
+        Ok(Labels { labels, outside })
+    }
+
+    /// The same classes.
+    pub fn copied(&self, alloc: Global) -> Result<Labels, AllocError>
+        ensures { IfOk result (λ labels. (n : ℕ) → AreOf n self.now → AreOf n labels) }
+    {
+        Ok(Labels {
+            labels: self.labels.iter().copied().collect(alloc)?,
+            outside: self.outside.iter().copied().collect(alloc)?,
+        })
+    }
+
+    /// Makes one class of those of both lines.
+    fn join(&mut self, first: usize, second: usize)
+        requires first { first < length self.old.labels.items }
+        requires second { second < length self.old.labels.items }
+        ensures { (n : ℕ) → AreOf n self.old → AreOf n self.new }
+    {
+        let (a, b) = (self.labels[first], self.labels[second]);
+        if a == b {
+            return;
+        }
+        let (kept, gone) = if a < b { (a, b) } else { (b, a) };
+        for label in self.labels.iter_mut() {
             if *label == gone {
                 *label = kept;
             }
         }
     }
-}
 
-/// Joins the line with those at which the coordinates, two a line, aren't both zero.
-fn join_along<F: Field>(labels: &mut [usize], line: usize, set: &LineSet, coordinates: &[F])
-    requires line { line < length labels.old }
-    requires set { All (λ m. m < length labels.old) set.now }
-    requires coordinates { length coordinates.now ≡ 2 * length set.now }
-{
-    for i in 0..set.len() {
-        if !is_zero(&coordinates[2 * i..2 * i + 2]) {
-            join(labels, line, set.at(i));
-        }
-    }
-}
-
-/// Joins the line with the lines of the set over which `v`, if the set spans it, has components.
-fn join_support<F: Field>(
-    labels: &mut [usize],
-    state: &Matched<'_, F>,
-    line: usize,
-    v: &[F],
-) -> Result<(), AllocError>
-    requires labels { length labels.old ≡ length state.now.problem.lines }
-    requires line { line < length state.now.problem.lines }
-    requires long { length v.now ≡ state.now.problem.dimension }
-{
-    if let Some(coordinates) = coordinates_over(state, v)? {
-        join_along(labels, line, state.set(), coordinates.as_slice());
-    }
-    Ok(())
-}
-
-/// The rank of the line.
-fn own_rank<F: Field>(alloc: Global, problem: &Problem<F>, line: usize) -> Result<usize, AllocError>
-    requires { line < length problem.now.lines }
-{
-    let mut alone = LineSet::new(alloc);
-    alone.push(line)?;
-    rank_over(
-        alloc,
-        problem,
-        &Rows::new(alloc, problem.dimension()),
-        &alone,
-    )
-}
-
-/// Joins the line with the support of its tip, or of its vectors where the set spans both and they are independent.
-fn join_line<F: Field>(
-    labels: &mut [usize],
-    state: &Matched<'_, F>,
-    line: usize,
-) -> Result<(), AllocError>
-    requires labels { length labels.old ≡ length state.now.problem.lines }
-    requires line { line < length state.now.problem.lines }
-{
-    let problem = state.problem();
-    if let Some(tip) = tip_of(state, line)? {
-        return join_support(labels, state, line, tip.as_slice());
-    }
-    if own_rank(state.alloc(), problem, line)? == 2 {
-        join_support(labels, state, line, problem.first(line))?;
-        join_support(labels, state, line, problem.second(line))?;
-    }
-    Ok(())
-}
-
-/// Joins all lines both vectors of which are zero.
-fn join_zero_lines<F: Field>(labels: &mut [usize], problem: &Problem<F>)
-    requires { length labels.old ≡ length problem.now.lines }
-{
-    let mut known: Option<usize> = None;
-    for line in 0..problem.len() {
-        if is_zero(problem.first(line)) && is_zero(problem.second(line)) {
-            match known {
-                Some(first) => join(labels, first, line),
-                None => known = Some(line),
+    /// Joins an exposed line with its support.
+    fn join_support<F: Field>(&mut self, state: &Matched<'_, F>, exposed: Exposed<F>)
+        requires seen { IsSeen F.scalars F.number state.now.problem state.now.set exposed }
+        requires labels { AreOf (length state.now.problem.lines) self.old }
+        ensures { AreOf (length state.now.problem.lines) self.new }
+    {
+        let set = state.set();
+        for i in 0..set.len() {
+            if state.has_component(exposed, i) {
+                self.join(exposed.line, set.at(i));
             }
         }
     }
-}
 
-/// A label of its own for each of so many lines.
-fn own_labels(alloc: Global, count: usize) -> Result<Vec<usize>, AllocError>
-    ensures { IfOk result (λ labels. length labels.items ≡ count) }
-{
-    let mut labels = Vec::new(alloc);
-    for line in 0..count {
-        labels.push(line)?;
-    }
-    Ok(labels)
-}
-
-/// A label for each line of the problem.
-pub fn labels_over<F: Field>(
-    alloc: Global,
-    problem: &Problem<F>,
-    set: &LineSet,
-) -> Result<Vec<usize>, AllocError>
-    requires { IsIndependentSet F.scalars problem.now set.now }
-    ensures { IfOk result (λ labels. length labels.items ≡ length problem.now.lines) }
-{
-    let state = Matched::started(alloc, problem, set)?;
-    let mut labels = own_labels(alloc, problem.len())?;
-    for line in 0..problem.len() {
-        join_line(&mut labels, &state, line)?;
-    }
-    join_zero_lines(&mut labels, problem);
-    Ok(labels)
-}
-
-/// The lines with a label.
-fn lines_with(alloc: Global, labels: &[usize], label: usize) -> Result<LineSet, AllocError>
-    ensures { IfOk result (λ lines. All (λ m. m < length labels.now) lines) }
-{
-    let mut lines = LineSet::new(alloc);
-    for (line, own) in labels.iter().enumerate() {
-        if *own == label {
-            lines.push(line)?;
+    /// Joins each exposed line of the order with its support.
+    pub fn join_exposed<F: Field>(&mut self, state: &Matched<'_, F>, order: &[usize])
+        requires lines { All (λ m. m < length state.now.problem.lines) order.now }
+        requires labels { AreOf (length state.now.problem.lines) self.old }
+        ensures { AreOf (length state.now.problem.lines) self.new }
+    {
+        for at in 0..order.len() {
+            let line = order[at];
+            if state.adds_one(line) {
+                self.outside[line] = true;
+            }
+            if let Some(exposed) = state.exposed(line) {
+                self.join_support(state, exposed);
+            }
         }
     }
-    Ok(lines)
+
+    /// Joins a line with those over which its vectors have components.
+    fn join_reached<F: Field>(&mut self, state: &Matched<'_, F>, line: usize)
+        requires line { line < length state.now.problem.lines }
+        requires labels { AreOf (length state.now.problem.lines) self.old }
+        ensures { AreOf (length state.now.problem.lines) self.new }
+    {
+        let set = state.set();
+        for i in 0..set.len() {
+            if state.reaches(line, i) {
+                self.join(line, set.at(i));
+            }
+        }
+    }
+
+    /// Joins each line of the order, of rank two and never outside, with those over which its vectors have components.
+    pub fn join_inside<F: Field>(&mut self, state: &Matched<'_, F>, order: &[usize])
+        requires lines { All (λ m. m < length state.now.problem.lines) order.now }
+        requires labels { AreOf (length state.now.problem.lines) self.old }
+        ensures { AreOf (length state.now.problem.lines) self.new }
+    {
+        for at in 0..order.len() {
+            let line = order[at];
+            if !self.outside[line] && state.has_rank_two(line) {
+                self.join_reached(state, line);
+            }
+        }
+    }
+
+    /// Joins each line with the one that stands for it, but for lines of rank one: these cost nothing alone, and a
+    /// smaller part asks for a smaller kernel.
+    pub fn join_firsts<F: Field>(&mut self, state: &Matched<'_, F>, firsts: &[usize])
+        requires long { length firsts.now ≡ length state.now.problem.lines }
+        requires within { All (λ m. m < length firsts.now) firsts.now }
+        requires labels { AreOf (length firsts.now) self.old }
+        ensures { AreOf (length firsts.now) self.new }
+    {
+        for line in 0..firsts.len() {
+            if !has_rank_one(state, line) {
+                self.join(line, firsts[line]);
+            }
+        }
+    }
+
+    /// The lines with a label.
+    fn lines_with(&self, alloc: Global, label: usize) -> Result<LineSet, AllocError>
+        ensures { IfOk result (λ lines. All (λ m. m < length self.now.labels.items) lines) }
+    {
+        let mut lines = LineSet::new(alloc);
+        for line in 0..self.labels.len() {
+            if self.labels[line] == label {
+                lines.push(line)?;
+            }
+        }
+        Ok(lines)
+    }
+
+    /// The classes, as parts.
+    pub fn parts(&self, alloc: Global) -> Result<Parts, AllocError>
+        ensures { IfOk result (ArePartsBelow (length self.now.labels.items)) }
+    {
+        let mut parts = Parts::new(alloc);
+        for line in 0..self.labels.len() {
+            if self.labels[line] == line {
+                push_part(&mut parts, self.lines_with(alloc, line)?)?;
+            }
+        }
+        Ok(parts)
+    }
 }
 
 /// Puts a part last, unless it is empty.
@@ -158,17 +180,4 @@ pub fn push_part(parts: &mut Parts, part: LineSet) -> Result<(), AllocError>
         Ok(()) => Ok(()),
         Err(_) => Err(AllocError),
     }
-}
-
-/// The classes, as parts.
-pub fn parts_of(alloc: Global, labels: &[usize]) -> Result<Parts, AllocError>
-    ensures { IfOk result (ArePartsBelow (length labels.now)) }
-{
-    let mut parts = Parts::new(alloc);
-    for (line, label) in labels.iter().enumerate() {
-        if *label == line {
-            push_part(&mut parts, lines_with(alloc, labels, line)?)?;
-        }
-    }
-    Ok(parts)
 }

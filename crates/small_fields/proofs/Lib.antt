@@ -1,3 +1,3 @@
-mod ByteSteps
+mod Powers
 mod Remainders
 mod Sums

@@ -21,6 +21,11 @@ remainder m (suc n) p = remainder m n (bit_xor p (coefficient p (8 + n) * (m * 2
 unfoldable pub byte_product : ℕ → ℕ → ℕ
 byte_product a b = remainder 0x11B 7 (carryless_product 8 a b)
 
+-- a byte, n times multiplied with itself
+unfoldable pub byte_power : ℕ → ℕ → ℕ
+byte_power a zero = 1
+byte_power a (suc n) = byte_product (byte_power a n) a
+
 -- r is what p leaves when it is divided by m, of degree 8: p is a multiple of m plus r, and r has degree below 8
 pub record IsRemainder (m p r : ℕ) : Type 0 where
   pub quotient : ℕ

@@ -1,7 +1,8 @@
 //! The field of 256 elements.
 ghost use Rattle.std.specs.Prelude.{◌≡◌, ◌≢◌, ◌<◌};
-ghost use Rattle.small_fields.specs.Bytes.{byte_product};
+ghost use Rattle.small_fields.specs.Bytes.{byte_power, byte_product};
 
+use crate::byte_tables::{LOGARITHMS, POWERS};
 use field_core::Field;
 
 /// A polynomial over two elements of degree below 8, as the byte of its coefficients.
@@ -11,40 +12,39 @@ pub struct F256 {
     ghost small: { byte < 256 },
 }
 
-/// The product with x. The term x^8 that it may make is x^4 + x^3 + x + 1.
-fn times_x(a: u8) -> u8
-    ensures { result ≡ byte_product a 2 }
+/// The power of x + 1 with an exponent.
+fn power(exponent: usize) -> u8
+    requires { exponent < 509 }
+    ensures { result ≡ byte_power 3 exponent }
 {
-    if a < 128 { 2 * a } else { 2 * (a - 128) ^ 0x1b }
+    POWERS[exponent]
 }
 
-/// The product: the sum of `a` times x^i over the terms x^i of `b`.
+/// The exponent of the power of x + 1 that the byte is.
+fn logarithm(byte: u8) -> usize
+    requires { byte ≢ 0 }
+    ensures small { result < 255 }
+    ensures power { byte_power 3 result ≡ byte }
+{
+    LOGARITHMS[byte as usize] as usize
+}
+
+/// The product: the exponents are added.
 fn product(a: u8, b: u8) -> u8
     ensures { result ≡ byte_product a b }
 {
-    let mut sum = 0;
-    let mut shifted = a;
-    for i in 0..8u32 {
-        if (b >> i) % 2 == 1 {
-            sum ^= shifted;
-        }
-        shifted = times_x(shifted);
+    if a == 0 || b == 0 {
+        return 0;
     }
-    sum
+    power(logarithm(a) + logarithm(b))
 }
 
-/// The power 254, which is the inverse: the product of the powers 2, 4, 8 and so on to 128.
+/// The inverse: the power 255 of x + 1 is one.
 fn inverse_byte(byte: u8) -> u8
     requires { byte ≢ 0 }
     ensures { byte_product byte result ≡ 1 }
 {
-    let mut power = byte;
-    let mut inverse = 1;
-    for _ in 0..7u32 {
-        power = product(power, power);
-        inverse = product(inverse, power);
-    }
-    inverse
+    power(255 - logarithm(byte))
 }
 
 impl Field for F256 {

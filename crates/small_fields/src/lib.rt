@@ -17,6 +17,7 @@
 #![tactic(auto)]
 
 mod byte;
+mod byte_tables;
 mod field_name;
 mod laws;
 mod modulo_2;

@@ -11,6 +11,8 @@ mod augmentations;
 #[cfg(test)]
 mod common_vectors;
 #[cfg(test)]
+mod keeping;
+#[cfg(test)]
 mod overlaps;
 #[cfg(test)]
 mod partitions;

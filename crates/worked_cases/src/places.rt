@@ -32,7 +32,7 @@ pub fn ready<'a, F: Field>(
 }
 
 /// The place of a line in words, with its support where it is exposed.
-fn place<F: Field>(
+pub fn place<F: Field>(
     rt: &impl Abort,
     state: &Matched<'_, F>,
     line: usize,

@@ -2,8 +2,8 @@ use Rattle.std.proofs.Common.{map}
 use Rattle.augment.proofs.FamiliesModulo.{below_first, below_fits, below_independent, below_more, shortened_below}
 use Rattle.augment.proofs.Meetings.{first_as_long, member_spans}
 use Rattle.augment.specs.Divided.{IsShortened}
-use Rattle.search.proofs.FirstSets.{not_empty}
-use Rattle.search.specs.Found.{first_of}
+use Rattle.augment.proofs.FirstSets.{not_empty}
+use Rattle.augment.specs.FirstSets.{first_of}
 use Rattle.augment.proofs.modulo.family_modulo.Goals as goal
 
 pub member-requires : goal.member-requires

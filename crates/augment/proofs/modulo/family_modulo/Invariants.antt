@@ -1,5 +1,5 @@
 use Rattle.augment.proofs.FamiliesModulo.{AreShortened}
-use Rattle.search.specs.Found.{first_of}
+use Rattle.augment.specs.FirstSets.{first_of}
 use Rattle.augment.proofs.modulo.family_modulo.Given as goal
 
 abbrev pub invariant-loop-i : goal.invariant-loop-i

@@ -5,8 +5,17 @@ use Rattle.parity_lines.specs.Problems.{IsProblem}
 use Rattle.quotients.proofs.Results.{if_ok}
 use Rattle.augment.proofs.ClassSteps.{as_long_as_set, independent_here, member_misses, one_more, point_not_common, state_no_step}
 use Rattle.augment.proofs.Meetings.{first_as_long}
-use Rattle.search.specs.Found.{first_of}
+use Rattle.augment.specs.FirstSets.{first_of}
 use Rattle.augment.proofs.raising.raised.Goals as goal
+
+pub at-requires-clause-first_within : goal.at-requires-clause-first_within
+at-requires-clause-first_within g c = rw (c.in_ok-state.ensures.problem, c.problem-2.ensures) c.requires.overlapping.first_within
+
+pub at-requires-clause-second_within : goal.at-requires-clause-second_within
+at-requires-clause-second_within g c = rw (c.in_ok-state.ensures.problem, c.problem-2.ensures) c.requires.overlapping.second_within
+
+pub at-requires-clause-overlap : goal.at-requires-clause-overlap
+at-requires-clause-overlap g c = rw (c.in_ok-state.ensures.problem, c.in_ok-state.ensures.set, c.problem-2.ensures) c.requires.overlapping.overlap
 
 pub at-requires-clause-no_step : goal.at-requires-clause-no_step
 at-requires-clause-no_step g c =

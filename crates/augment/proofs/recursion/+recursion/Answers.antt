@@ -2,8 +2,8 @@ use Rattle.std.proofs.Common.{◌+◌, ℕ, length, map, subst}
 use Rattle.parity_lines.specs.Problems.{IsProblem, vectors_at}
 use Rattle.augment.proofs.Meetings.{bounded_first, keeps_more, turn_bounded, turn_smaller}
 use Rattle.augment.proofs.StepsModulo.{best_made, larger_made}
-use Rattle.search.proofs.FirstSets.{keeps_itself}
-use Rattle.search.specs.Found.{first_of}
+use Rattle.augment.proofs.FirstSets.{keeps_itself}
+use Rattle.augment.specs.FirstSets.{first_of}
 use Rattle.augment.proofs.recursion.+recursion.Goals as goal
 
 pub step_by_meeting-points-init : goal.step_by_meeting-points-init

@@ -1,7 +1,7 @@
 use Rattle.std.proofs.Common.{◌+◌, ◌-◌, ◌*◌, length}
 use Rattle.parity_lines.specs.Problems.{vectors_at}
 use Rattle.augment.proofs.Meetings.{IsBounded}
-use Rattle.search.specs.Found.{KeepsFirst, first_of}
+use Rattle.augment.specs.FirstSets.{KeepsFirst, first_of}
 use Rattle.augment.proofs.recursion.+recursion.Given as goal
 
 abbrev pub decreases-step_modulo : goal.decreases-step_modulo

@@ -51,13 +51,13 @@ end_before-requires g c =
     let told = exchange_told S p p keep T M N c.in_ok-larger.field-0 c.in-Moved.out into refl c.in-Moved.is c.in_ok-larger.ensures.step
     c.in_ok-larger.ensures.kept in
     record {
-      within = rw (c.in_ok-before.ensures, c.problem-problem.ensures) c.requires.within;
-      into_within = rw (c.in_ok-before.ensures, c.problem-problem.ensures) (comes_in S F p (problem_of g s) M i e c.requires.within T
+      within = rw (c.in_ok-before.ensures.problem, c.problem-problem.ensures) c.requires.within;
+      into_within = rw (c.in_ok-before.ensures.problem, c.problem-problem.ensures) (comes_in S F p (problem_of g s) M i e c.requires.within T
           c.requires.target.independent c.requires.target.size keep (vectors_of g s) (c.requires.circuit F) N c.in-Moved.out into told.0 told.1);
-      exposed = rw (c.in_ok-before.ensures, c.problem-problem.ensures, c.set-set.ensures.value) (circuit_exposed S F p (problem_of g s) M i e
+      exposed = rw (c.in_ok-before.ensures.problem, c.in_ok-before.ensures.set, c.problem-problem.ensures, c.set-set.ensures.value) (circuit_exposed S F p (problem_of g s) M i e
           c.requires.within T c.requires.target.independent c.requires.target.size keep (vectors_of g s) (c.requires.circuit F));
-      into_exposed = rw (c.in_ok-before.ensures, c.problem-problem.ensures, c.set-set.ensures.value) told.0.can.exposed;
-      overlap = rw (c.in_ok-before.ensures, c.problem-problem.ensures, c.set-set.ensures.value) (overlap_before S F p (problem_of g s) M i e
+      into_exposed = rw (c.in_ok-before.ensures.problem, c.in_ok-before.ensures.set, c.problem-problem.ensures, c.set-set.ensures.value) told.0.can.exposed;
+      overlap = rw (c.in_ok-before.ensures.problem, c.in_ok-before.ensures.set, c.problem-problem.ensures, c.set-set.ensures.value) (overlap_before S F p (problem_of g s) M i e
           c.requires.within T c.requires.target.independent c.requires.target.size keep (vectors_of g s) (c.requires.circuit F) N c.in-Moved.out into
           told.0 told.1);
     }
@@ -77,4 +77,4 @@ returns-clause-found g c L =
     c.in_ok-larger.ensures.kept in
     circuit_goes_on S L p (problem_of g s) M c.set-set.ensures.independent e c.requires.within T c.requires.target.independent c.requires.target.size keep (vectors_of g s)
     (c.requires.circuit L) N c.in-Moved.out into told.0 told.1
-    (rw (c.in_ok-before.ensures, c.problem-problem.ensures, c.set-set.ensures.value, c.in-None.is) at c.in_ok-end-in-Moved.ensures)
+    (rw (c.in_ok-before.ensures.problem, c.in_ok-before.ensures.set, c.problem-problem.ensures, c.set-set.ensures.value, c.in-None.is) at c.in_ok-end-in-Moved.ensures)

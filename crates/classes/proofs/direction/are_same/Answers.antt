@@ -1,6 +1,6 @@
 use Rattle.std.proofs.Common.{◌≡◌, true, arith}
 use Rattle.std.proofs.lemmas.Bool.{false≢true}
-use Rattle.classes.proofs.Monics.{same_entries}
+use Rattle.matching_state.proofs.Monics.{same_entries}
 use Rattle.classes.proofs.direction.are_same.Goals as goal
 
 pub returns-then-ne : goal.returns-then-ne

@@ -1,7 +1,7 @@
 use Rattle.std.proofs.Common.{arith}
 use Rattle.field_core.proofs.Values.{numbers_of_values}
 use Rattle.parity_lines.proofs.Relations.{monic_multiple}
-use Rattle.classes.proofs.Monics.{lead_inverse_of}
+use Rattle.matching_state.proofs.Monics.{lead_inverse_of}
 use Rattle.classes.proofs.SpreadParts.{entry_is}
 use Rattle.classes.proofs.direction.monic.Goals as goal
 

@@ -10,3 +10,8 @@ returns-in_ok-copied-in-None g c =
       second_within = c.requires.second_within;
       overlap = c.requires.overlap;
     })
+
+pub returns-in-Some : goal.returns-in-Some
+returns-in-Some g c =
+    let told = rw c.in-Some.is at c.in_ok-larger.ensures in
+    record { independent = told.0; size = told.2 }

@@ -16,8 +16,8 @@ pub returns-in-Free : goal.returns-in-Free
 returns-in-Free g c =
     let f = c.args.family.now in
     let size : length c.member.result.now ≡ size_of f = sym (c.member.ensures.size 0 [] (not_empty f.sets c.len-members.ensures.family.nonempty)) in
-    rw (c.in_ok-state.ensures, c.problem.ensures, size) at c.in_ok-with_free-in-Free.ensures
+    rw (c.in_ok-state.ensures.problem, c.in_ok-state.ensures.set, c.problem.ensures, size) at c.in_ok-with_free-in-Free.ensures
 
 pub with_member-requires-clause-directions : goal.with_member-requires-clause-directions
 with_member-requires-clause-directions g c L =
-    rw c.deref.ensures.value (rw (c.in-Directions.is, c.in_ok-state.ensures, c.problem.ensures, c.member.ensures.value) at (c.in_ok-line.ensures L))
+    rw c.deref.ensures.value (rw (c.in-Directions.is, c.in_ok-state.ensures.problem, c.in_ok-state.ensures.set, c.problem.ensures, c.member.ensures.value) at (c.in_ok-line.ensures L))

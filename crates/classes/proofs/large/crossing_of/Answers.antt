@@ -18,11 +18,11 @@ facts g L c = record {
 -- the member that separates the two lines misses a vector of each
 first_missed : (g : Over) (c : After-as_slice-2 g) →
     IsMissedOf g.F.Field.scalars c.args.family.now.problem (get_or c.args.family.now.sets c.separator_of.result []) c.args.label c.in_ok-first.first
-first_missed g c = rw (c.in_ok-state.ensures, c.problem-problem.ensures, c.member-apart.ensures.value) at c.in_ok-first.ensures
+first_missed g c = rw (c.in_ok-state.ensures.problem, c.in_ok-state.ensures.set, c.problem-problem.ensures, c.member-apart.ensures.value) at c.in_ok-first.ensures
 
 second_missed : (g : Over) (c : After-as_slice-2 g) →
     IsMissedOf g.F.Field.scalars c.args.family.now.problem (get_or c.args.family.now.sets c.separator_of.result []) c.args.line c.in_ok-second.second
-second_missed g c = rw (c.in_ok-state.ensures, c.problem-problem.ensures, c.member-apart.ensures.value) at c.in_ok-second.ensures
+second_missed g c = rw (c.in_ok-state.ensures.problem, c.in_ok-state.ensures.set, c.problem-problem.ensures, c.member-apart.ensures.value) at c.in_ok-second.ensures
 
 pub separator_of-requires-clause-table : goal.separator_of-requires-clause-table
 separator_of-requires-clause-table g c L = (c.requires.turn L).table
@@ -34,24 +34,24 @@ pub started-requires : goal.started-requires
 started-requires g c = rw c.problem-problem.ensures c.member-apart.ensures.independent
 
 pub missed_of-requires-clause-within : goal.missed_of-requires-clause-within
-missed_of-requires-clause-within g c = rw (c.in_ok-state.ensures, c.problem-problem.ensures) c.requires.label_within
+missed_of-requires-clause-within g c = rw (c.in_ok-state.ensures.problem, c.problem-problem.ensures) c.requires.label_within
 
 pub missed_of-requires-clause-some : goal.missed_of-requires-clause-some
 missed_of-requires-clause-some g c =
     let F = g.met.F.Field.lawful in
     let T = facts g F (goal.at.missed_of-requires-clause-some g c).After-len-lines in
-    rw (c.in_ok-state.ensures, c.problem-problem.ensures, c.member-apart.ensures.value)
+    rw (c.in_ok-state.ensures.problem, c.in_ok-state.ensures.set, c.problem-problem.ensures, c.member-apart.ensures.value)
     (separator_first g.F.Field.scalars F c.args.family.now c.args.table.now T c.args.label c.args.line c.separator_of.result
     c.requires.label_within c.requires.line_within (c.separator_of.ensures F))
 
 pub missed_of-requires-2-clause-within : goal.missed_of-requires-2-clause-within
-missed_of-requires-2-clause-within g c = rw (c.in_ok-state.ensures, c.problem-problem.ensures) c.requires.line_within
+missed_of-requires-2-clause-within g c = rw (c.in_ok-state.ensures.problem, c.problem-problem.ensures) c.requires.line_within
 
 pub missed_of-requires-2-clause-some : goal.missed_of-requires-2-clause-some
 missed_of-requires-2-clause-some g c =
     let F = g.met.F.Field.lawful in
     let T = facts g F (goal.at.missed_of-requires-2-clause-some g c).After-len-lines in
-    rw (c.in_ok-state.ensures, c.problem-problem.ensures, c.member-apart.ensures.value)
+    rw (c.in_ok-state.ensures.problem, c.in_ok-state.ensures.set, c.problem-problem.ensures, c.member-apart.ensures.value)
     (separator_second g.F.Field.scalars F c.args.family.now c.args.table.now T c.args.label c.args.line c.separator_of.result
     c.requires.label_within c.requires.line_within (c.separator_of.ensures F))
 

@@ -55,50 +55,50 @@ pub started-requires : goal.started-requires
 started-requires g c = rw c.problem-problem.ensures c.member.ensures.independent
 
 pub reach-requires-clause-labels : goal.reach-requires-clause-labels
-reach-requires-clause-labels g c = rw (c.in_ok-state.ensures, c.problem-problem.ensures) c.requires.classes.told.long
+reach-requires-clause-labels g c = rw (c.in_ok-state.ensures.problem, c.problem-problem.ensures) c.requires.classes.told.long
 
 pub reach-requires-clause-target : goal.reach-requires-clause-target
 reach-requires-clause-target g c =
-    rw (c.in_ok-state.ensures, c.problem-problem.ensures, c.member.ensures.value, c.member-target.ensures.value)
+    rw (c.in_ok-state.ensures.problem, c.in_ok-state.ensures.set, c.problem-problem.ensures, c.member.ensures.value, c.member-target.ensures.value)
     (member_set g.F.Field.scalars c.args.family.now c.len-members.ensures.family c.in_ok-member_missing.field-0 c.in_ok-member_missing.ensures.within)
 
 pub reach-requires-clause-long : goal.reach-requires-clause-long
 reach-requires-clause-long g c =
     let s = goal.at.reach-requires-clause-long g c in
-    rw (c.in_ok-state.ensures, c.problem-problem.ensures)
+    rw (c.in_ok-state.ensures.problem, c.problem-problem.ensures)
     (line_long g.F.Field.scalars g.met.F.Field.lawful c.args.family.now.problem (facts g s.After-len-lines).problem c.args.label
     (below g s.After-len-lines) g.F.Field.number c.nonzero_of-o.result.now (nonzero g s.After-nonzero_of-o).of_line)
 
 pub reach-requires-clause-missed : goal.reach-requires-clause-missed
 reach-requires-clause-missed g c =
-    rw (c.in_ok-state.ensures, c.problem-problem.ensures, c.member-target.ensures.value) c.in_ok-member_missing.ensures.missed
+    rw (c.in_ok-state.ensures.problem, c.problem-problem.ensures, c.member-target.ensures.value) c.in_ok-member_missing.ensures.missed
 
 pub returns-in-Larger : goal.returns-in-Larger
 returns-in-Larger g c L =
-    rw (c.in_ok-state.ensures, c.problem-problem.ensures, c.member.ensures.value, c.in-Larger.is) at c.in_ok-larger.ensures.walk
+    rw (c.in_ok-state.ensures.problem, c.in_ok-state.ensures.set, c.problem-problem.ensures, c.member.ensures.value, c.in-Larger.is) at c.in_ok-larger.ensures.walk
 
 -- the walk ended at a set of as many lines of the same problem
 pub split_end-requires-clause-problem : goal.split_end-requires-clause-problem
-split_end-requires-clause-problem g c = rw (c.in_ok-larger.ensures.problem, c.in_ok-state.ensures) c.problem-problem.ensures
+split_end-requires-clause-problem g c = rw (c.in_ok-larger.ensures.problem, c.in_ok-state.ensures.problem) c.problem-problem.ensures
 
 pub split_end-requires-clause-size : goal.split_end-requires-clause-size
-split_end-requires-clause-size g c = rw (c.in_ok-larger.ensures.counts.as_long, c.in_ok-state.ensures, c.member.ensures.value)
+split_end-requires-clause-size g c = rw (c.in_ok-larger.ensures.counts.as_long, c.in_ok-state.ensures.set, c.member.ensures.value)
 
 pub split_end-requires-clause-split : goal.split_end-requires-clause-split
 split_end-requires-clause-split g c =
     let S = g.F.Field.scalars in
     let N = c.reach.new.state.set in
     let i : IsIndependentSet S c.args.family.now.problem N =
-    rw (c.in_ok-larger.ensures.problem, c.in_ok-state.ensures, c.problem-problem.ensures) at c.set-set.ensures.independent in
+    rw (c.in_ok-larger.ensures.problem, c.in_ok-state.ensures.problem, c.problem-problem.ensures) at c.set-set.ensures.independent in
     stray_split S g.met.F.Field.lawful c.args.family.now c.args.table.now (facts g (goal.at.split_end-requires-clause-split g c).After-len-lines)
     c.args.labels.now c.requires.classes N i c.in-Stray.line c.in-Stray.other
-    (rw (c.in_ok-state.ensures, c.problem-problem.ensures, c.in-Stray.is) at c.in_ok-larger.ensures.walk)
+    (rw (c.in_ok-state.ensures.problem, c.problem-problem.ensures, c.in-Stray.is) at c.in_ok-larger.ensures.walk)
 
 pub spread_turn-requires-clause-problem : goal.spread_turn-requires-clause-problem
-spread_turn-requires-clause-problem g c = rw (c.in_ok-larger.ensures.problem, c.in_ok-state.ensures) c.problem-problem.ensures
+spread_turn-requires-clause-problem g c = rw (c.in_ok-larger.ensures.problem, c.in_ok-state.ensures.problem) c.problem-problem.ensures
 
 pub spread_turn-requires-clause-size : goal.spread_turn-requires-clause-size
-spread_turn-requires-clause-size g c = rw (c.in_ok-larger.ensures.counts.as_long, c.in_ok-state.ensures, c.member.ensures.value)
+spread_turn-requires-clause-size g c = rw (c.in_ok-larger.ensures.counts.as_long, c.in_ok-state.ensures.set, c.member.ensures.value)
 
 pub spread_turn-requires-clause-large : goal.spread_turn-requires-clause-large
 spread_turn-requires-clause-large g c =
@@ -107,10 +107,10 @@ spread_turn-requires-clause-large g c =
     let k = c.len-members.ensures.family in
     let N = c.reach.new.state.set in
     let i : IsIndependentSet S f.problem N =
-    rw (c.in_ok-larger.ensures.problem, c.in_ok-state.ensures, c.problem-problem.ensures) at c.set-set-in-Arrived.ensures.independent in
+    rw (c.in_ok-larger.ensures.problem, c.in_ok-state.ensures.problem, c.problem-problem.ensures) at c.set-set-in-Arrived.ensures.independent in
     large_kept S g.met.F.Field.lawful f.problem c.args.labels.now c.requires.classes.told.long (get_or f.sets 0 []) N c.args.class.now c.args.label
     (member_set S f k 0 (not_empty f.sets k.nonempty)).independent.line_set.within i.line_set.within
-    (rw (c.in_ok-state.ensures, c.member.ensures.value) at c.in_ok-larger.ensures.counts) c.requires.large
+    (rw (c.in_ok-state.ensures.set, c.member.ensures.value) at c.in_ok-larger.ensures.counts) c.requires.large
 
 pub spread_turn-requires-clause-long : goal.spread_turn-requires-clause-long
 spread_turn-requires-clause-long g c =
@@ -122,4 +122,4 @@ pub spread_turn-requires-clause-of_label : goal.spread_turn-requires-clause-of_l
 spread_turn-requires-clause-of_label g c = nonzero g (goal.at.spread_turn-requires-clause-of_label g c).After-nonzero_of-o
 
 pub spread_turn-requires-clause-missed : goal.spread_turn-requires-clause-missed
-spread_turn-requires-clause-missed g c = rw (c.in_ok-state.ensures, c.problem-problem.ensures, c.in-Arrived.is) at c.in_ok-larger.ensures.walk
+spread_turn-requires-clause-missed g c = rw (c.in_ok-state.ensures.problem, c.problem-problem.ensures, c.in-Arrived.is) at c.in_ok-larger.ensures.walk

@@ -19,7 +19,7 @@ facts g L c = record {
 -- what the member that separates the outer lines misses, and a vector of the middle line
 first_missed : (g : Over) (c : After-as_slice g) →
     IsMissedOf g.F.Field.scalars c.args.family.now.problem (get_or c.args.family.now.sets c.separator_of.result []) c.args.triple.first c.in_ok-first.first
-first_missed g c = rw (c.in_ok-state.ensures, c.problem-problem.ensures, c.member-apart.ensures.value) at c.in_ok-first.ensures
+first_missed g c = rw (c.in_ok-state.ensures.problem, c.in_ok-state.ensures.set, c.problem-problem.ensures, c.member-apart.ensures.value) at c.in_ok-first.ensures
 
 nonzero : (g : Over) (c : After-nonzero_of-middle g) →
     IsNonzeroOf g.F.Field.scalars c.args.family.now.problem c.args.triple.middle (map g.F.Field.number c.nonzero_of-middle.result.now)
@@ -47,12 +47,12 @@ pub started-requires : goal.started-requires
 started-requires g c = rw c.problem-problem.ensures c.member-apart.ensures.independent
 
 pub missed_of-requires-clause-within : goal.missed_of-requires-clause-within
-missed_of-requires-clause-within g c = rw (c.in_ok-state.ensures, c.problem-problem.ensures) c.requires.triple.first_in
+missed_of-requires-clause-within g c = rw (c.in_ok-state.ensures.problem, c.problem-problem.ensures) c.requires.triple.first_in
 
 pub missed_of-requires-clause-some : goal.missed_of-requires-clause-some
 missed_of-requires-clause-some g c =
     let F = g.met.F.Field.lawful in
-    rw (c.in_ok-state.ensures, c.problem-problem.ensures, c.member-apart.ensures.value)
+    rw (c.in_ok-state.ensures.problem, c.in_ok-state.ensures.set, c.problem-problem.ensures, c.member-apart.ensures.value)
     (separator_first g.F.Field.scalars F c.args.family.now c.args.table.now (facts g F (goal.at.missed_of-requires-clause-some g c).After-len-lines)
     c.args.triple.first c.args.triple.last c.separator_of.result c.requires.triple.first_in c.requires.triple.last_in (c.separator_of.ensures F))
 

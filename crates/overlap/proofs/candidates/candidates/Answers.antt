@@ -12,8 +12,8 @@ loop-line-preserved g c =
     let M = c.args.state.now.set in
     let n = c.loop-line.line in
     let before = c.loop-line.found in
-    let after = c.match-branch-2.found in
-    elim c.match-branch-2.branch as (λ _. AreCandidates S p M (n + 1) after.items) [
+    let after = c.match-branch-3.found in
+    elim c.match-branch-3.branch as (λ _. AreCandidates S p M (n + 1) after.items) [
       | in-Some+in_ok-push w ↦
           let k = subst (λ found. MatchOption found (¬ (IsExposed S p M n)) (λ x. (x.line ≡ n) × IsCandidate S p M x)) w.in-Some.is
           c.in_ok-candidate.ensures in

@@ -17,6 +17,13 @@ move_toward-requires-clause-within g c =
     within_state S g.met.F.Field.lawful o.problem P o.set c.set.ensures.independent o.first o.second e.first_within e.second_within e.overlap
     o.point c.point.ensures.is_point T t c.in_ok-state.state q c.args.set.now c.in_ok-state.ensures c.problem-problem.ensures
 
+pub move_toward-requires-clause-width : goal.move_toward-requires-clause-width
+move_toward-requires-clause-width g c = rw (c.in_ok-keep.ensures, c.in_ok-state.ensures.problem, c.problem-problem.ensures) c.point.ensures.long
+
+pub move_toward-requires-clause-missed : goal.move_toward-requires-clause-missed
+move_toward-requires-clause-missed g c =
+    rw (c.in_ok-keep.ensures, c.in_ok-state.ensures.problem, c.in_ok-state.ensures.set, c.problem-problem.ensures, c.point.ensures.value) c.requires.misses
+
 pub unreachable-requires : goal.unreachable-requires
 unreachable-requires g c =
     let S = g.F.Field.scalars in

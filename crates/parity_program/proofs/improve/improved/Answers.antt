@@ -28,7 +28,7 @@ pub returns-in_ok-step-in-Ready : goal.returns-in_ok-step-in-Ready
 returns-in_ok-step-in-Ready g c =
     let start = rw c.in-Ready.is at c.in_ok-matched.ensures in
     let step = c.in_ok-step-in-Ready.step in
-    let told = stepped g.F.Field.scalars c.args.problem.now c.args.set.now step start.1 (rw start.0 at c.in_ok-step-in-Ready.ensures) in
+    let told = stepped g.F.Field.scalars c.args.problem.now c.args.set.now step start.1 (rw (start.0.problem, start.0.set) at c.in_ok-step-in-Ready.ensures) in
     replied g.F.Field.scalars c.args.problem.now c.args.set.now (of_step step) c.step_reply.result told c.step_reply.ensures
 
 pub returns-in-Relation : goal.returns-in-Relation

@@ -1,6 +1,0 @@
-use Rattle.std.proofs.Common.{length}
-use Rattle.search.specs.Below.{ArePartsBelow}
-use Rattle.search.proofs.labels.parts_of.Given as goal
-
-abbrev pub invariant-loop-line : goal.invariant-loop-line
-invariant-loop-line l = ArePartsBelow (length l.labels) l.parts

@@ -1,0 +1,5 @@
+use Rattle.std.proofs.Common.{◌≡◌, length, All}
+use Rattle.search.proofs.meeting.carry_rows.Given as goal
+
+abbrev pub invariant-loop-row : goal.invariant-loop-row
+invariant-loop-row g l = All (λ r. length r ≡ length l.tip) l.rows

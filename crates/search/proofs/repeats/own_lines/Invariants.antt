@@ -1,0 +1,5 @@
+use Rattle.std.proofs.Common.{◌<◌, All}
+use Rattle.search.proofs.repeats.own_lines.Given as goal
+
+abbrev pub invariant-loop-line : goal.invariant-loop-line
+invariant-loop-line l = All (λ m. m < l.line) l.order.items
