@@ -8,6 +8,9 @@ pub fn axpy<F: Field>(target: &mut [F], factor: F, source: &[F])
     requires { length target.old ≡ length source.now }
     ensures { map F.number target.new ≡ vector_sum F.scalars (map F.number target.old) (multiple F.scalars (F.number factor) (map F.number source.now)) }
 {
+    if factor == F::zero() {
+        return;
+    }
     for i in 0..source.len() {
         target[i] = target[i].add(factor.mul(source[i]));
     }

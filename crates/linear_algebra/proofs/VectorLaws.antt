@@ -4,7 +4,7 @@ use Rattle.std.proofs.lemmas.List.Elements.{All-head, All-tail}
 use Rattle.vector_spaces.proofs.Space.{linear}
 use Rattle.linear_algebra.specs.Scalars.{Scalars, IsScalar, IsField}
 use Rattle.linear_algebra.specs.Vectors.{IsVector, zero_vector, vector_sum, multiple}
-use Rattle.linear_algebra.proofs.Coordinates.{list, list-vector, tuple, element, element-number, list-tuple, tuple-list, space, list-null, list-plus, list-scale}
+use Rattle.linear_algebra.proofs.Coordinates.{list, list-vector, tuple, element, element-number, element-zero, list-tuple, tuple-list, space, list-null, list-plus, list-scale}
 
 module _ (S : Scalars) (F : IsField S) (d : ℕ) where
   infixl 65 ◌⊕◌
@@ -44,7 +44,13 @@ module _ (S : Scalars) (F : IsField S) (d : ℕ) where
   pub vector_sum-zero : (v : List ℕ) → IsVector S d v → vector_sum S v (zero_vector S d) ≡ v
   vector_sum-zero v h = sym (list-sum v (zero_vector S d) h zero-vector) ∙ ap (list S d) (simp (tuple-zero, linear)) ∙ list-tuple S F d v h
 
--- one times a vector is the vector
+  -- one times a vector is the vector
+
+  pub vector_sum-nothing : (v w : List ℕ) → IsVector S d v → IsVector S d w → vector_sum S v (multiple S S.zero w) ≡ v
+  vector_sum-nothing v w h k =
+      sym (list-sum v (multiple S S.zero w) h (multiple-vector S.zero w F.zero_in k))
+      ∙ ap (list S d) (simp (tuple-multiple S.zero w F.zero_in k, element-zero S F, linear)) ∙ list-tuple S F d v h
+
 pub multiple-one : (S : Scalars) → IsField S → (v : List ℕ) → All (IsScalar S) v → multiple S S.one v ≡ v
 multiple-one S F [] h = refl
 multiple-one S F (a ∷ v) h = ap₂ (λ b w. b ∷ w)

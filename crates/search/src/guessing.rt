@@ -97,7 +97,7 @@ pub fn guess_seen<F: Field>(
 }
 
 /// The problem of the lines' residues modulo a subspace.
-fn problem_of_residues<F: Field>(
+pub fn problem_of_residues<F: Field>(
     alloc: Global,
     problem: &Problem<F>,
     subspace: &Echelon<F>,

@@ -9,6 +9,7 @@ mod kernel;
 mod labels;
 mod meeting;
 mod notes;
+mod outers;
 mod repeats;
 mod restarting;
 mod searching;

@@ -1,12 +1,14 @@
 //! The search for a longer set, or for a certificate.
 
-ghost use Rattle.std.specs.Prelude.{◌≡◌, ◌<◌, IfOk, IfSome};
+ghost use Rattle.std.specs.Prelude.{◌≡◌, ◌<◌, IfOk, IfSome, length};
 ghost use Rattle.parity_lines.specs.LineSets.{IsIndependentSet};
 ghost use Rattle.search.specs.Found.{KeepsSize, TellsFound, TellsWalked};
+ghost use Rattle.search.specs.Repeats.{AreFirsts};
 ghost use Rattle.search.specs.Walkers.{IsOf};
 
 use crate::guessing::{guess, guess_one_part, guess_seen};
 use crate::meeting::Meeting;
+use crate::repeats::own_lines;
 use crate::walker::Walker;
 use field_core::{Field, Rows};
 use matching_state::Matched;
@@ -54,6 +56,62 @@ fn narrow<F: Field>(
         *misses += 1;
     }
     Ok(())
+}
+
+/// A walk that keeps to the span of the set and of what the line brings in.
+fn walk_beside<F: Field>(
+    problem: &Problem<F>,
+    set: &LineSet,
+    walker: &mut Walker<'_, F>,
+    common: &mut Subspace<F>,
+    firsts: &[usize],
+    line: usize,
+) -> Result<Option<Walked<F>>, AllocError>
+    requires set { IsIndependentSet F.scalars problem.now set.now }
+    requires walker { IsOf F.scalars problem.now set.now walker.old }
+    requires firsts { AreFirsts (length problem.now.lines) firsts.now }
+    requires common { common.old.width ≡ problem.now.dimension }
+    ensures walker { IsOf F.scalars problem.now set.now walker.new }
+    ensures common { common.new.width ≡ problem.now.dimension }
+    ensures found { IfOk result (λ found. IfSome found (TellsWalked F.scalars problem.now set.now)) }
+{
+    let alloc = walker.state.alloc();
+    let mut meeting = Meeting::whole(alloc, walker.state.set().len())?;
+    if let Some(larger) = walker.walk_beside(&mut meeting, firsts, line)? {
+        return Ok(Some(Walked::Larger(larger)));
+    }
+    let vectors = meeting.vectors(&walker.state)?;
+    let mut misses = 0;
+    narrow(alloc, common, &vectors, &mut misses)?;
+    Ok(None)
+}
+
+/// How many classes of lines have a walk of their own.
+const MOST_CLASSES: usize = 64;
+
+/// Walks that keep to the span of the set and of what one more line brings in: one for each class of these lines.
+fn walks_by_class<F: Field>(
+    problem: &Problem<F>,
+    set: &LineSet,
+    walker: &mut Walker<'_, F>,
+    common: &mut Subspace<F>,
+) -> Result<Option<Walked<F>>, AllocError>
+    requires set { IsIndependentSet F.scalars problem.now set.now }
+    requires walker { IsOf F.scalars problem.now set.now walker.old }
+    requires common { common.old.width ≡ problem.now.dimension }
+    ensures walker { IsOf F.scalars problem.now set.now walker.new }
+    ensures common { common.new.width ≡ problem.now.dimension }
+    ensures found { IfOk result (λ found. IfSome found (TellsWalked F.scalars problem.now set.now)) }
+{
+    let firsts = walker.first_outers()?;
+    let classes = own_lines(walker.state.alloc(), firsts.as_slice())?;
+    for at in 0..classes.len().min(MOST_CLASSES) {
+        let line = classes[at];
+        if let Some(found) = walk_beside(problem, set, walker, common, firsts.as_slice(), line)? {
+            return Ok(Some(found));
+        }
+    }
+    Ok(None)
 }
 
 /// A walk from a set at random, which narrows the vectors that all sets span, and maybe a guess from these. `misses`
@@ -142,6 +200,14 @@ fn search_by_walks<F: Field>(
         return Ok(Some(Walked::Best(certificate)));
     }
     let mut common = Subspace::spanned(alloc, problem.dimension(), &vectors)?;
+    if let Some(found) = walks_by_class(problem, set, walker, &mut common)? {
+        return Ok(Some(found));
+    }
+    if common.rank() < vectors.len() {
+        if let Some(certificate) = guess(alloc, problem, set, common.basis(), 0)? {
+            return Ok(Some(Walked::Best(certificate)));
+        }
+    }
     restarts(problem, set, walker, &mut common)
 }
 

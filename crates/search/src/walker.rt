@@ -6,12 +6,14 @@ ghost use Rattle.search.specs.Below.{ArePartsBelow};
 ghost use Rattle.search.specs.Found.{IsLargerThan, KeepsSize};
 ghost use Rattle.search.specs.Meetings.{IsOver};
 ghost use Rattle.search.specs.Notes.{AreOf};
+ghost use Rattle.search.specs.Repeats.{AreFirsts};
 ghost use Rattle.search.specs.Walkers.{IsReady};
 
 use crate::choices::Choices;
 use crate::labels::Labels;
 use crate::meeting::Meeting;
 use crate::notes::Notes;
+use crate::outers::{first_outers, lines_in_classes};
 use crate::repeats::{first_lines, own_lines};
 use crate::restarting::wander;
 use crate::settling::settle;
@@ -94,6 +96,44 @@ impl<'a, F: Field> Walker<'a, F> {
             self.order.as_slice(),
             &mut self.notes,
         )
+    }
+
+    /// For each line the first one that spans the same modulo the span of the set.
+    pub fn first_outers(&self) -> Result<Vec<usize>, AllocError>
+        ensures { IfOk result (λ firsts. AreFirsts (length self.now.state.problem.lines) firsts.items) }
+    {
+        first_outers(&self.state)
+    }
+
+    /// As [`Walker::walk`], by lines alone that keep to the span of the set and of what the line brings in.
+    pub fn walk_beside(
+        &mut self,
+        meeting: &mut Meeting<F>,
+        firsts: &[usize],
+        line: usize,
+    ) -> Result<Option<LineSet>, AllocError>
+        requires ready { IsReady F.scalars self.old }
+        requires firsts { AreFirsts (length self.old.state.problem.lines) firsts.now }
+        requires over { IsOver self.old.state meeting.old }
+        ensures keeps { KeepsSize self.old.state self.new.state }
+        ensures ready { IsReady F.scalars self.new }
+        ensures over { IsOver self.new.state meeting.new }
+        ensures larger { IfOk result (λ found. IfSome found (IsLargerThan F.scalars self.old.state.problem self.old.state.set)) }
+    {
+        let set = self.state.set();
+        let inside = if set.len() == 0 {
+            line
+        } else {
+            firsts[set.at(0)]
+        };
+        let order = lines_in_classes(
+            self.state.alloc(),
+            self.order.as_slice(),
+            firsts,
+            line,
+            inside,
+        )?;
+        walk(&mut self.state, meeting, order.as_slice(), &mut self.notes)
     }
 
     /// Goes to another set at random, and puts the lines in another order.
